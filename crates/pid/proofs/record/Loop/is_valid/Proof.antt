@@ -1,0 +1,38 @@
+use Rattle.pid.specs.Record.{valid}
+use borrow.Author.Needs.{needs}
+use Rattle.pid.proofs.record.Loop.is_valid.Statement.{statement}
+use Rattle.pid.proofs.record.Loop.is_valid.Tie as tie
+
+in-table-requires : tie.Need-in-table-requires
+in-table-requires c κs = search needs
+
+is-ordered-requires : tie.Need-is-ordered-requires
+is-ordered-requires c κs = search needs
+
+places-ok-requires : tie.Need-places-ok-requires
+places-ok-requires c κs = search needs
+
+fine-ok-requires : tie.Need-fine-ok-requires
+fine-ok-requires c κs = search needs
+
+pending-ok-requires : tie.Need-pending-ok-requires
+pending-ok-requires c κs = search needs
+
+last-ok-requires : tie.Need-last-ok-requires
+last-ok-requires c κs = search needs
+
+returns : tie.Need-returns
+unfolding valid
+returns c = cc
+
+pub is-valid-spec : {M : Type 1} → statement M
+is-valid-spec =
+    tie.close
+    (tie.spec
+    in-table-requires
+    is-ordered-requires
+    places-ok-requires
+    fine-ok-requires
+    pending-ok-requires
+    last-ok-requires
+    returns)

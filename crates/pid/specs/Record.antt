@@ -1,0 +1,101 @@
+-- 01, "What a loop remembers": the fresh loop, the blank, the state rules, and the making of a loop.
+use Prim.Native.Nat.{ℕ}
+use mathlib.Core.Bool.{Bool, true, false, not, cond, _&&_, _||_}
+use lib.Dec.{eqb, ltb}
+use lib.IntN.{ℤ, pos, negsuc}
+use Rattle.whole.specs.Numbers.{eqZ, inside}
+use Rattle.pid.specs.declared.settings.Settings.{Settings}
+use Rattle.pid.specs.declared.record.Last.{Last}
+use Rattle.pid.specs.declared.record.Last.the-variants.{Nothing, Kept}
+use Rattle.pid.specs.declared.record.Loop.{Loop}
+use Rattle.pid.specs.declared.record.Made.{Made}
+use Rattle.pid.specs.Units.{B, reach, fineReach, fastest}
+use Rattle.pid.specs.Settings.{sets, inTable, ordered, settingsRefusal, blankSettings}
+
+-- "A fresh loop: manual, not pending, set 0, w = target = sp, rate and u as set, I = 0, not primed, y = 0, last number 0."
+abbrev pub freshOf : Settings → Loop
+freshOf s = record {
+  settings = s;
+  automatic = false;
+  pending = false;
+  set = 0;
+  w = s .sp;
+  target = s .sp;
+  rate = s .rate;
+  u = s .out;
+  integral = pos 0;
+  primed = false;
+  y = pos 0;
+  number = 0;
+  last = Nothing;
+}
+
+-- "the blank: every number zero, manual, every flag no, no last command"
+unfoldable pub blankLoop : Loop
+blankLoop = record {
+  settings = blankSettings;
+  automatic = false;
+  pending = false;
+  set = 0;
+  w = pos 0;
+  target = pos 0;
+  rate = pos 0;
+  u = pos 0;
+  integral = pos 0;
+  primed = false;
+  y = pos 0;
+  number = 0;
+  last = Nothing;
+}
+
+-- "Making a loop from settings tests 11, then 16. Where making a loop [..] is refused, what stands beside the code is the blank"
+unfoldable pub madeOf : Settings → Made
+madeOf s =
+    cond (eqb (settingsRefusal s) 0)
+    (record { code = 0; state = freshOf s })
+    (record { code = settingsRefusal s; state = blankLoop })
+
+-- ---- the state rules
+
+-- a number within ±1,000,000
+abbrev pub inReach : ℤ → Bool
+inReach z = inside (negsuc 999999) (pos reach) z
+
+-- a rate from 1 to 2,000,000
+abbrev pub inRates : ℤ → Bool
+inRates z = inside (pos 1) (pos fastest) z
+
+-- "w and target within ±1,000,000; rate 1 to 2,000,000; set 0 to 3; u in lo..hi"
+abbrev pub placesOk : Loop → Bool
+placesOk l =
+    inReach (l .w) && inReach (l .target) && inRates (l .rate) && ltb (l .set) sets
+    && inside (l .settings .lo) (l .settings .hi) (l .u)
+
+-- "|I| at most B"
+abbrev pub inB : ℤ → Bool
+inB z = inside (negsuc 16842751999999) (pos B) z
+
+-- "|y| at most 65,536,000,000"
+abbrev pub inFine : ℤ → Bool
+inFine z = inside (negsuc 65535999999) (pos fineReach) z
+
+-- "|I| at most B; |y| at most 65,536,000,000, and y = 0 while not primed"
+abbrev pub fineOk : Loop → Bool
+fineOk l = inB (l .integral) && inFine (l .y) && (l .primed || eqZ (l .y) (pos 0))
+
+-- "not pending in manual"
+abbrev pub pendingOk : Loop → Bool
+pendingOk l = l .automatic || not (l .pending)
+
+-- "no last command exactly when the last number is 0"
+abbrev pub lastOk : ℕ → Last → Bool
+lastOk n Nothing = eqb n 0
+lastOk n (Kept c) = not (eqb n 0)
+
+-- the rules that do not speak of the last number and command. "Settings within the table" asks lo < hi and out in lo..hi too
+abbrev pub sound : Loop → Bool
+sound l = inTable (l .settings) && ordered (l .settings) && placesOk l && fineOk l && pendingOk l
+
+-- the state rules, all of them
+unfoldable pub valid : Loop → Bool
+valid l = sound l && lastOk (l .number) (l .last)

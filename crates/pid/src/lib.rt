@@ -1,0 +1,3 @@
+// 01's loop, one module for each of its subjects. Each has its definitions in specs/ under the same name.
+pub mod record;
+pub mod settings;

@@ -1,0 +1,42 @@
+-- Signed values and the bits that the machine holds of them.
+use mathlib.Core.Path.{_≡_, refl, ap, sym, _∙_}
+use mathlib.Core.List.{List, [], _∷_}
+use Prim.Native.Nat.{ℕ, zero, suc, _^_, _<_}
+use native.Mathlib.Omega.{arith}
+use borrow.Author.Tests.{eqb-true, eqb-false}
+use denote.Array.{each}
+use denote.Shadow.{shadow}
+use denote.Signed.{SInt}
+use lib.Dec.{eqb}
+use lib.Pow.{pow-pos}
+use lib.IntN.{ℤ, pos}
+use lib.ListN.{getD}
+use lib.Signed.{mag}
+use mir.Syntax.{Width}
+use mir.Val.{Val, SFits, hbits, toZ, ofZ}
+use mir.Facts.{toZ-ofZ}
+use Rattle.whole.specs.Numbers.{eqZ}
+use Rattle.whole.proofs.Truth.{by-test}
+use Rattle.whole.proofs.Parts.{yes-eqZ, no-eqZ}
+
+-- `==` compares bits: two values that fit are the same exactly where their bits are
+pub same-bits : (w : Width) (a b : ℤ) → SFits w a → SFits w b → eqb (ofZ w a) (ofZ w b) ≡ eqZ a b
+same-bits w a b f g =
+    by-test (eqb (ofZ w a) (ofZ w b))
+    (λ e. e ∙ sym (yes-eqZ a b (sym (toZ-ofZ f) ∙ ap (toZ w) (eqb-true (ofZ w a) (ofZ w b) e) ∙ toZ-ofZ g)))
+    (λ e. e ∙ sym (no-eqZ a b (λ q. eqb-false (ofZ w a) (ofZ w b) e (ap (ofZ w) q))))
+
+-- what the machine reads back from a result's bits is the result
+pub back : (w : Width) (r : ℤ) → mag r < 2 ^ hbits w → toZ w (ofZ w r) ≡ r
+back w r f = toZ-ofZ {w = w} {z = r} (record { sfits = f })
+
+-- a list that the machine holds, element by element
+pub cons-back : {w : Width} {z : ℤ} {vs ws : List ℤ} → SFits w z → vs ≡ ws → toZ w (ofZ w z) ∷ vs ≡ z ∷ ws
+cons-back h e = rw (toZ-ofZ h, e)
+
+-- an element of an array or a slice fits its type, and so does the 0 past its end
+pub elem-fits : (w : Width) (xs : List ℤ) (us : List Val) (i : ℕ) → shadow (each ℤ (SInt w .own) xs us) → SFits w (getD xs i (pos 0))
+elem-fits w [] us i p = record { sfits = pow-pos (hbits w) }
+elem-fits w (x ∷ xs) [] i p = absurd p
+elem-fits w (x ∷ xs) (u ∷ us) zero p = record { sfits = p .0 .1 }
+elem-fits w (x ∷ xs) (u ∷ us) (suc i) p = elem-fits w xs us i (p .1)

@@ -1,0 +1,6 @@
+pub mod Truth
+pub mod Parts
+pub mod Lin
+pub mod Sizes
+pub mod Num
+pub mod Bits
