@@ -1,2 +1,6 @@
 pub mod Table
 mod Fit
+mod Shapes
+pub mod Rounding
+mod Arithmetic
+mod Samples

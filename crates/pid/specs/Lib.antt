@@ -1,3 +1,5 @@
 pub mod Units
 pub mod Settings
 pub mod Record
+pub mod Sample
+pub mod Bounds

@@ -31,6 +31,17 @@ gain = 4194304
 abbrev pub share : ℕ
 share = 65536
 
+-- "Largest P, D and g: 8,388,608,000,000 each, so every product stays below 2,800,000,000,000,000,000."
+abbrev pub part : ℕ
+part = 8388608000000
+
+-- the most of U - v, with U within lo × F..hi × F and v = P + I + g + D
+abbrev pub excessMost : ℕ
+excessMost = 42074112000000
+
+abbrev pub product : ℕ
+product = 2800000000000000000
+
 -- "round(x / F) is the floor of (x + 32,768) / F, for negative x too." `shrZ x m` is the floor of x / m
 unfoldable pub rounded : ℤ → ℤ
 rounded x = shrZ (x +ℤ pos 32768) F

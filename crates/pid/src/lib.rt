@@ -1,3 +1,5 @@
 // 01's loop, one module for each of its subjects. Each has its definitions in specs/ under the same name.
+pub mod law;
 pub mod record;
+mod sample;
 pub mod settings;

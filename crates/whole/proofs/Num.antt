@@ -136,6 +136,21 @@ stays {z} {n} a t =
 pub gives : {z : ℤ} (a : Num z) {r : ℤ} → T (a .ok) → a .val ≡ r → z ≡ r
 gives a t e = a .is t ∙ e
 
+-- a function of values is the function of the plain numbers
+pub same3 : (f : ℤ → ℤ → ℤ → ℤ) {a b c : ℤ} (x : Num a) (y : Num b) (z : Num c) → T (x .ok && (y .ok && z .ok)) →
+    f a b c ≡ f (x .val) (y .val) (z .val)
+same3 f x y z t =
+    let p = and-yes (x .ok) (y .ok && z .ok) t in
+    let q = and-yes (y .ok) (z .ok) (p .1) in
+    rw (x .is (p .0), y .is (q .0), z .is (q .1))
+
+pub same4 : (f : ℤ → ℤ → ℤ → ℤ → ℤ) {a b c d : ℤ} (x : Num a) (y : Num b) (z : Num c) (u : Num d) →
+    T (x .ok && (y .ok && (z .ok && u .ok))) → f a b c d ≡ f (x .val) (y .val) (z .val) (u .val)
+same4 f x y z u t =
+    let p = and-yes (x .ok) (y .ok && (z .ok && u .ok)) t in
+    let q = same3 (f (x .val)) y z u (p .1) in
+    rw (x .is (p .0)) q
+
 -- ---- tests
 
 pub record Flag (b : Bool) : Type 0 where

@@ -32,6 +32,12 @@ pub chosen : {A : Type 0} (P : A → Type 0) (b : Bool) {x y : A} → (b ≡ tru
 chosen P true f g = f refl
 chosen P false f g = g refl
 
+pub cond-yes : {A : Type 0} (x y : A) {b : Bool} → b ≡ true → cond b x y ≡ x
+cond-yes x y e = rw e
+
+pub cond-no : {A : Type 0} (x y : A) {b : Bool} → b ≡ false → cond b x y ≡ y
+cond-no x y e = rw e
+
 pub push : {A B : Type 0} (f : A → B) (b : Bool) (x y : A) → cond b (f x) (f y) ≡ f (cond b x y)
 push f true x y = refl
 push f false x y = refl

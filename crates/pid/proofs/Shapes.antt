@@ -1,0 +1,18 @@
+-- Records that are the same field by field.
+use mathlib.Core.Path.{_≡_, refl}
+use mathlib.Core.Bool.{Bool}
+use lib.IntN.{ℤ}
+use Rattle.pid.specs.declared.sample.Moving.{Moving}
+use Rattle.pid.specs.declared.sample.Sensed.{Sensed}
+
+pub moving-is : {w w′ u u′ i i′ y y′ : ℤ} {r p p′ : Bool} → w ≡ w′ → u ≡ u′ → i ≡ i′ → y ≡ y′ → p ≡ p′ →
+    _≡_ {A = Moving}
+    (record { w = w; u = u; integral = i; y = y; primed = r; pending = p })
+    (record { w = w′; u = u′; integral = i′; y = y′; primed = r; pending = p′ })
+moving-is a b c d e = rw (a, b, c, d, e)
+
+pub sensed-is : {w w′ y y′ e e′ p p′ d d′ : ℤ} → w ≡ w′ → y ≡ y′ → e ≡ e′ → p ≡ p′ → d ≡ d′ →
+    _≡_ {A = Sensed}
+    (record { w = w; y = y; e = e; p = p; d = d })
+    (record { w = w′; y = y′; e = e′; p = p′; d = d′ })
+sensed-is a b c d e = rw (a, b, c, d, e)
