@@ -9,12 +9,13 @@ use lib.Signed.{ltZ, _≤ℤ_, _<ℤ_}
 use mir.Facts.{and-yes}
 use Rattle.whole.specs.Numbers.{plus, size, Within}
 use Rattle.whole.proofs.Truth.{chosen}
-use Rattle.whole.proofs.Parts.{zs, is-pos}
+use Rattle.whole.proofs.Parts.{zs, is-pos, Between}
 use Rattle.whole.proofs.Lin.{Lin, at, lins}
-use Rattle.whole.proofs.Num.{Num}
-use Rattle.pid.specs.Units.{F, fineReach, share, rounded}
-use Rattle.pid.specs.Sample.{lesser, greater, limited, ramped, filtered}
-use Rattle.pid.proofs.Rounding.{share-high, share-low, num-rounded}
+use Rattle.whole.proofs.Num.{Num, nums, stays}
+use Rattle.pid.specs.Units.{F, share, part, rounded}
+use Rattle.pid.specs.Bounds.{SlopeOk}
+use Rattle.pid.specs.Sample.{lesser, greater, limited, ramped, filtered, derivative, clamped}
+use Rattle.pid.proofs.Rounding.{rounded-low, rounded-high, rounded-within, share-high, share-low, num-rounded}
 
 -- what holds of both holds of the smaller, of the larger, and of a number limited to them
 pub lesser-of : (P : ℤ → Type 0) (a b : ℤ) → P a → P b → P (lesser a b)
@@ -67,6 +68,53 @@ filtered-within primed y x alpha {n} hy hx h k =
     chosen (Within n) primed
     (λ e. subst (λ (a : ℤ). Within n (y +ℤ rounded ((x -ℤ y) *ℤ a))) (sym (is-pos alpha h)) (followed y x (plus alpha) hy hx (omega (arith, zs))))
     (λ e. hx)
+
+-- clamping moves I no further than the room that the limit leaves, or not at all
+pub clamped-within : (i g top bottom : ℤ) {n : ℕ} → Within n i → Within n top → Within n bottom → Within n (clamped i g top bottom)
+unfolding clamped lesser greater
+clamped-within i g top bottom {n} hi ht hb =
+    let G = at g in
+    let S : Lin (i +ℤ g) = search lins in
+    chosen (Within n) (ltZ (pos 0) g)
+    (λ e. chosen (λ (z : ℤ). Within n (cond (ltZ i z) z i)) (ltZ (i +ℤ g) top)
+    (λ a. chosen (Within n) (ltZ i (i +ℤ g)) (λ b. omega (arith, zs)) (λ b. hi))
+    (λ a. chosen (Within n) (ltZ i top) (λ b. ht) (λ b. hi)))
+    (λ e. chosen (Within n) (ltZ g (pos 0))
+    (λ d. chosen (λ (z : ℤ). Within n (cond (ltZ i z) i z)) (ltZ (i +ℤ g) bottom)
+    (λ a. chosen (Within n) (ltZ i bottom) (λ b. hi) (λ b. hb))
+    (λ a. chosen (Within n) (ltZ i (i +ℤ g)) (λ b. hi) (λ b. omega (arith, zs))))
+    (λ d. hi))
+
+pub derivative-within : (primed : Bool) (kd sign y after : ℤ) → SlopeOk kd sign y after → Within part (derivative primed kd sign y after)
+unfolding derivative
+derivative-within primed kd sign y after k =
+    chosen (Within part) primed
+    (λ _. rounded-within (kd *ℤ sign *ℤ (y -ℤ after)) 8388608000000 (stays (search nums depth 12) tt))
+    (λ _. record { within = omega arith })
+
+-- a fine amount within lo × F..hi × F is rounded to one within lo..hi
+pub rounded-between : (x lo hi : ℤ) → (lo *ℤ pos F) ≤ℤ x → x ≤ℤ (hi *ℤ pos F) → Between lo hi (rounded x)
+rounded-between x lo hi l h =
+    let X = at x in
+    let A = at lo in
+    let B = at hi in
+    let R = at (rounded x) in
+    let L : Lin (lo *ℤ pos 65536) = search lins in
+    let H : Lin (hi *ℤ pos 65536) = search lins in
+    let P : Lin (rounded x *ℤ pos 65536 -ℤ pos 32768) = search lins in
+    let Q : Lin (rounded x *ℤ pos 65536 +ℤ pos 32768) = search lins in
+    let a = rounded-low x in
+    let b = rounded-high x in
+    record { low = omega (arith, zs); high = omega (arith, zs) }
+
+pub limited-between : (x lo hi : ℤ) → lo ≤ℤ hi → Between lo hi (limited x lo hi)
+unfolding limited
+limited-between x lo hi h =
+    let X = at x in
+    let A = at lo in
+    let B = at hi in
+    chosen (Between lo hi) (ltZ x lo) (λ e. record { low = omega (arith, zs); high = h })
+    (λ e. chosen (Between lo hi) (ltZ hi x) (λ d. record { low = h; high = omega (arith, zs) }) (λ d. record { low = omega (arith, zs); high = omega (arith, zs) }))
 
 -- ---- for the machine's values
 

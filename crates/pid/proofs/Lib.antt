@@ -4,3 +4,4 @@ mod Shapes
 pub mod Rounding
 mod Arithmetic
 mod Samples
+pub mod Sound

@@ -3,3 +3,4 @@ pub mod Settings
 pub mod Record
 pub mod Sample
 pub mod Bounds
+pub mod Law

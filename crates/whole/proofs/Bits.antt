@@ -12,7 +12,7 @@ use lib.Pow.{pow-pos}
 use lib.IntN.{ℤ, pos}
 use lib.ListN.{getD}
 use lib.Signed.{mag}
-use mir.Syntax.{Width}
+use mir.Syntax.{Width, w32, w64}
 use mir.Val.{Val, SFits, hbits, toZ, ofZ}
 use mir.Facts.{toZ-ofZ}
 use Rattle.whole.specs.Numbers.{eqZ}
@@ -29,6 +29,10 @@ same-bits w a b f g =
 -- what the machine reads back from a result's bits is the result
 pub back : (w : Width) (r : ℤ) → mag r < 2 ^ hbits w → toZ w (ofZ w r) ≡ r
 back w r f = toZ-ofZ {w = w} {z = r} (record { sfits = f })
+
+-- a number of 32 bits that a call made one of 64
+pub widened : {x : ℤ} (r : ℤ) → SFits w32 x → mag r < 2 ^ 63 → r ≡ toZ w32 (ofZ w32 x) → toZ w64 (ofZ w64 r) ≡ x
+widened r f ok e = back w64 r ok ∙ e ∙ toZ-ofZ f
 
 -- a list that the machine holds, element by element
 pub cons-back : {w : Width} {z : ℤ} {vs ws : List ℤ} → SFits w z → vs ≡ ws → toZ w (ofZ w z) ∷ vs ≡ z ∷ ws
