@@ -2,6 +2,7 @@ pub mod Table
 mod Fit
 mod Shapes
 pub mod Rounding
-mod Arithmetic
-mod Samples
+pub mod Arithmetic
+pub mod Samples
 pub mod Sound
+pub mod Kept
