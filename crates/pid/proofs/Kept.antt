@@ -1,9 +1,9 @@
 -- The state rules hold again after every command that the law accepts.
 use Prim.Native.Nat.{ℕ, _<_, _≤_}
-use mathlib.Core.Path.{_≡_, refl, sym, subst}
+use mathlib.Core.Path.{_≡_, refl, _∙_}
 use mathlib.Core.Bool.{Bool, true, false, not, cond, _&&_, _||_}
 use native.Mathlib.Omega.{arith}
-use borrow.Author.Tests.{lt-ltb}
+use borrow.Author.Tests.{lt-ltb, eqb-true, eqb-false}
 use lib.Dec.{eqb, ltb}
 use lib.IntN.{ℤ, pos, negsuc, _*ℤ_}
 use lib.Signed.{ltZ, _≤ℤ_}
@@ -15,15 +15,16 @@ use Rattle.pid.specs.declared.settings.Settings.{Settings}
 use Rattle.pid.specs.declared.record.Loop.{Loop}
 use Rattle.pid.specs.declared.record.Command.{Command}
 use Rattle.pid.specs.declared.record.Command.the-variants.{Sample, Hold, Put, Automatic, Target, Set}
+use Rattle.pid.specs.declared.law.Obeyed.{Obeyed}
 use Rattle.pid.specs.Units.{rounded}
 use Rattle.pid.specs.Settings.{sets, inTable, ordered}
-use Rattle.pid.specs.Record.{inReach, inRates, freshOf}
+use Rattle.pid.specs.Record.{inReach, inRates, freshOf, lastOk, valid}
 use Rattle.pid.specs.Sample.{limited, vOf, limitedV, sensedOf, actedOf, movedOf}
-use Rattle.pid.specs.Law.{fixedOf, movingOf, withMode, withTarget, sampleOf, refusalOf, stepOf}
+use Rattle.pid.specs.Law.{fixedOf, movingOf, withMode, withTarget, sampleOf, refusalOf, stepOf, lawOf}
 use Rattle.pid.specs.Bounds.{MovingOk}
 use Rattle.pid.proofs.Table.{settings-in}
 use Rattle.pid.proofs.Arithmetic.{rounded-between, limited-between}
-use Rattle.pid.proofs.Sound.{Holds, in-range, range-in, fixed-ok, moving-ok}
+use Rattle.pid.proofs.Sound.{Holds, to-sound, last-of, valid-of, holds-of, in-range, range-in, fixed-ok, moving-ok}
 use Rattle.pid.proofs.Samples.{sensed-ok, acted-ok}
 
 moded : (l : Loop) (a p : Bool) (k : ℕ) → Holds l → ltb k sets ≡ true → (a || not p) ≡ true → Holds (withMode l a p k)
@@ -142,3 +143,30 @@ fresh-holds s t o =
       zero = refl;
       pending = refl;
     }
+
+-- the law does not look at the last number and the last command, and leaves them
+pub step-last : (l : Loop) (c : Command) → lastOk (stepOf l c .number) (stepOf l c .last) ≡ lastOk (l .number) (l .last)
+unfolding stepOf sampleOf
+step-last l (Sample pv) = refl
+step-last l Hold = refl
+step-last l (Put x) = refl
+step-last l Automatic = chosen (λ (x : Loop). lastOk (x .number) (x .last) ≡ lastOk (l .number) (l .last)) (l .automatic) (λ _. refl) (λ _. refl)
+step-last l (Target t r) = refl
+step-last l (Set k) =
+    chosen (λ (x : Loop). lastOk (x .number) (x .last) ≡ lastOk (l .number) (l .last)) (eqb (l .set) (plus k)) (λ _. refl) (λ _. refl)
+
+pub step-valid : (l : Loop) (c : Command) → valid l ≡ true → refusalOf l c ≡ 0 → valid (stepOf l c) ≡ true
+step-valid l c v e =
+    valid-of (stepOf l c) (to-sound (stepOf l c) (step-holds l c (holds-of l v) e)) (step-last l c ∙ last-of l v)
+
+-- the plain law's three answers
+pub by-law : (P : Obeyed → Type 0) (l : Loop) (c : Command) →
+    (valid l ≡ false → P (record { code = 10; state = l })) →
+    (valid l ≡ true → refusalOf l c ≡ 0 → P (record { code = 0; state = stepOf l c })) →
+    (valid l ≡ true → (refusalOf l c ≡ 0 → ⊥) → P (record { code = refusalOf l c; state = l })) →
+    P (lawOf l c)
+unfolding lawOf
+by-law P l c broken done refused =
+    chosen P (valid l)
+    (λ v. chosen P (eqb (refusalOf l c) 0) (λ e. done v (eqb-true (refusalOf l c) 0 e)) (λ e. refused v (eqb-false (refusalOf l c) 0 e)))
+    broken

@@ -6,3 +6,4 @@ pub mod Arithmetic
 pub mod Samples
 pub mod Sound
 pub mod Kept
+pub mod promises

@@ -4,3 +4,4 @@ pub mod Record
 pub mod Sample
 pub mod Bounds
 pub mod Law
+pub mod Run

@@ -1,0 +1,3 @@
+-- The theorems: one file a demand, and 01's own numbers.
+pub mod Demand1
+pub mod Examples
