@@ -127,6 +127,11 @@ step-holds l (Set k) h e =
     chosen Holds (eqb (l .set) (plus k)) (λ _. h)
     (λ _. moded l (l .automatic) (l .pending || l .automatic) (plus k) h (set-in k (zero-then _ 8 e)) (set-pending (l .automatic) (l .pending) (h .pending)))
 
+-- an accepted sample lies within ±1,000,000
+pub sample-reach : (l : Loop) (pv : ℤ) → refusalOf l (Sample pv) ≡ 0 → inReach pv ≡ true
+unfolding refusalOf
+sample-reach l pv e = zero-then (inReach pv) 3 e
+
 pub fresh-holds : (s : Settings) → inTable s ≡ true → ordered s ≡ true → Holds (freshOf s)
 fresh-holds s t o =
     let i = settings-in s t in

@@ -6,4 +6,7 @@ pub mod Arithmetic
 pub mod Samples
 pub mod Sound
 pub mod Kept
+mod Bumpless
+mod Shares
+mod Ramp
 pub mod promises

@@ -137,6 +137,15 @@ in-via {n = n} e h = subst (λ (x : ℤ). Within n x) (sym e) h
 -- what omega is handed to read and to prove facts of signed numbers
 pub ruleset zs = (le-in, lt-in, eq-in, lt-yes, lt-no, le-yes, le-no, le-out, lt-out, eq-out, yes-lt, no-lt, yes-le, no-le, in-turn)
 
+-- a number that is not negative has no second part, one that is not positive no first
+pub no-minus : (z : ℤ) → pos 0 ≤ℤ z → minus z ≡ 0
+no-minus (pos n) h = refl
+no-minus (negsuc n) h = absurd (h .le)
+
+pub no-plus : (z : ℤ) → z ≤ℤ pos 0 → plus z ≡ 0
+no-plus (pos n) h = omega (arith, zs)
+no-plus (negsuc n) h = refl
+
 -- ---- equality and ranges, tested
 
 refl-eqZ : (a : ℤ) → eqZ a a ≡ true
