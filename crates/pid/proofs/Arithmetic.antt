@@ -1,11 +1,11 @@
 -- How large what the sample's arithmetic gives is: by laws, and for the machine's values by `search (nums, calls)`.
 use Prim.Native.Nat.{ℕ, max, _≤_}
-use mathlib.Core.Path.{_≡_, refl, ap, sym, subst}
-use mathlib.Core.Bool.{Bool, true, false, cond, _&&_}
+use mathlib.Core.Path.{_≡_, sym, subst}
+use mathlib.Core.Bool.{Bool, cond, _&&_}
 use native.Mathlib.Omega.{arith}
 use lib.Dec.{T}
 use lib.IntN.{ℤ, pos, negℤ, _+ℤ_, _-ℤ_, _*ℤ_}
-use lib.Signed.{ltZ, _≤ℤ_, _<ℤ_}
+use lib.Signed.{ltZ, _≤ℤ_}
 use mir.Facts.{and-yes}
 use Rattle.whole.specs.Numbers.{plus, size, Within}
 use Rattle.whole.proofs.Truth.{chosen}

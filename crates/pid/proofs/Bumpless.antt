@@ -1,18 +1,17 @@
 -- A loop is quiet where its next sample leaves u: in manual, and while a transfer is pending.
 use mathlib.Core.Path.{_≡_, refl, _∙_}
-use mathlib.Core.Bool.{Bool, true, false, not, cond, _&&_, _||_}
+use mathlib.Core.Bool.{Bool, true, false, not, cond, _||_}
 use mathlib.Core.List.{List, [], _∷_}
 use borrow.Author.Tests.{not-true}
 use lib.Dec.{eqb}
 use lib.IntN.{ℤ}
 use Rattle.whole.specs.Numbers.{plus}
-use Rattle.whole.proofs.Truth.{never, chosen, cond-no}
+use Rattle.whole.proofs.Truth.{never, chosen}
 use Rattle.pid.specs.declared.record.Loop.{Loop}
 use Rattle.pid.specs.declared.record.Command.{Command}
 use Rattle.pid.specs.declared.record.Command.the-variants.{Sample, Hold, Put, Automatic, Target, Set}
-use Rattle.pid.specs.Units.{rounded}
 use Rattle.pid.specs.Sample.{actedOf}
-use Rattle.pid.specs.Law.{withMode, sampleOf, stepOf}
+use Rattle.pid.specs.Law.{sampleOf, stepOf}
 use Rattle.pid.specs.Run.{after, switches, between}
 
 unfoldable pub quiet : Loop → Bool

@@ -1,16 +1,16 @@
 -- The state rules hold again after every command that the law accepts.
-use Prim.Native.Nat.{ℕ, _<_, _≤_}
+use Prim.Native.Nat.{ℕ}
 use mathlib.Core.Path.{_≡_, refl, _∙_}
 use mathlib.Core.Bool.{Bool, true, false, not, cond, _&&_, _||_}
 use native.Mathlib.Omega.{arith}
 use borrow.Author.Tests.{lt-ltb, eqb-true, eqb-false}
 use lib.Dec.{eqb, ltb}
-use lib.IntN.{ℤ, pos, negsuc, _*ℤ_}
-use lib.Signed.{ltZ, _≤ℤ_}
-use Rattle.whole.specs.Numbers.{plus, Within, inside}
-use Rattle.whole.proofs.Truth.{never, both, and, chosen, excluded, zero-then, zero-else, zero-if}
-use Rattle.whole.proofs.Parts.{zs, inside-yes, yes-inside, Between}
-use Rattle.whole.proofs.Lin.{Lin, at, lins}
+use lib.IntN.{ℤ, pos, negsuc}
+use lib.Signed.{ltZ}
+use Rattle.whole.specs.Numbers.{plus, inside}
+use Rattle.whole.proofs.Truth.{never, both, chosen, zero-then, zero-else, zero-if}
+use Rattle.whole.proofs.Parts.{zs, inside-yes, yes-inside}
+use Rattle.whole.proofs.Lin.{at}
 use Rattle.pid.specs.declared.settings.Settings.{Settings}
 use Rattle.pid.specs.declared.record.Loop.{Loop}
 use Rattle.pid.specs.declared.record.Command.{Command}
@@ -19,7 +19,7 @@ use Rattle.pid.specs.declared.law.Obeyed.{Obeyed}
 use Rattle.pid.specs.Units.{rounded}
 use Rattle.pid.specs.Settings.{sets, inTable, ordered}
 use Rattle.pid.specs.Record.{inReach, inRates, freshOf, lastOk, valid}
-use Rattle.pid.specs.Sample.{limited, vOf, limitedV, sensedOf, actedOf, movedOf}
+use Rattle.pid.specs.Sample.{limited, actedOf, movedOf}
 use Rattle.pid.specs.Law.{fixedOf, movingOf, withMode, withTarget, sampleOf, refusalOf, stepOf, lawOf}
 use Rattle.pid.specs.Bounds.{MovingOk}
 use Rattle.pid.proofs.Table.{settings-in}

@@ -1,14 +1,14 @@
 -- The way of w to its target: each sample takes the rate off the distance, until nothing is left.
-use Prim.Native.Nat.{ℕ, suc, _+_, _*_, _-_, _/_, _<_, _≤_}
-use mathlib.Core.Path.{_≡_, refl, sym, ap, _∙_}
-use mathlib.Core.Bool.{Bool, true, false, cond}
+use Prim.Native.Nat.{ℕ, suc, _+_, _*_, _-_, _<_, _≤_}
+use mathlib.Core.Path.{_≡_, refl, sym, _∙_}
+use mathlib.Core.Bool.{true}
 use mathlib.Core.List.{List, [], _∷_}
 use native.Mathlib.Omega.{arith}
 use native.Mathlib.Nat.{div-add-mod', mod-lt, mul-le-mul-right}
 use lib.Dec.{eqb}
-use lib.IntN.{ℤ, pos, negsuc, _+ℤ_, _-ℤ_}
+use lib.IntN.{ℤ, pos, _+ℤ_, _-ℤ_}
 use lib.Signed.{ltZ, _≤ℤ_}
-use Rattle.whole.specs.Numbers.{plus, minus, size}
+use Rattle.whole.specs.Numbers.{plus, size}
 use Rattle.whole.proofs.Truth.{never, chosen}
 use Rattle.whole.proofs.Parts.{zs, no-minus, no-plus, inside-yes}
 use Rattle.whole.proofs.Lin.{Lin, at, lins}
@@ -17,7 +17,7 @@ use Rattle.pid.specs.declared.record.Command.{Command}
 use Rattle.pid.specs.declared.record.Command.the-variants.{Sample, Hold, Put, Automatic, Target, Set}
 use Rattle.pid.specs.Record.{valid}
 use Rattle.pid.specs.Sample.{lesser, ramped, sensedOf, actedOf}
-use Rattle.pid.specs.Law.{withMode, sampleOf, stepOf}
+use Rattle.pid.specs.Law.{sampleOf, stepOf}
 use Rattle.pid.specs.Run.{after, noTarget, samples, distance, ceiling, samplesToTarget}
 use Rattle.pid.proofs.Sound.{holds-of}
 

@@ -1,6 +1,6 @@
 -- Laws of `rounded`, each shown once, for any number and any multiplier. Whoever uses `rounded` goes by these.
 use Prim.Native.Nat.{ℕ, _+_, _*_, _/_, _≤_, _<_}
-use mathlib.Core.Path.{_≡_, refl, ap}
+use mathlib.Core.Path.{_≡_, ap}
 use native.Mathlib.Omega.{arith}
 use native.Mathlib.Nat.{div-add-mod', mod-lt}
 use lib.Dec.{T, lit<}

@@ -1,8 +1,8 @@
 -- Laws of a sample: which of the law's steps 4 to 6 it takes, and that its numbers stay within their bounds.
 use mathlib.Core.Path.{_≡_, refl, _∙_}
-use mathlib.Core.Bool.{Bool, true, false, not, _&&_}
+use mathlib.Core.Bool.{true, false}
 use native.Mathlib.Omega.{arith}
-use lib.IntN.{ℤ, pos, negsuc, _-ℤ_, _*ℤ_}
+use lib.IntN.{ℤ, pos, _*ℤ_}
 use lib.Signed.{ltZ}
 use Rattle.whole.specs.Numbers.{Within}
 use Rattle.whole.proofs.Truth.{chosen, cond-yes, cond-no}
@@ -11,9 +11,9 @@ use Rattle.whole.proofs.Num.{nums, stays}
 use Rattle.pid.specs.declared.sample.Fixed.{Fixed}
 use Rattle.pid.specs.declared.sample.Moving.{Moving}
 use Rattle.pid.specs.declared.sample.Sensed.{Sensed}
-use Rattle.pid.specs.Sample.{newW, newY, sensedOf, transferred, roomOf, vOf, limitedV, backCalculated, integrated, newI, ordinaryOf, actedOf}
-use Rattle.pid.specs.Units.{reach, part, B}
-use Rattle.pid.specs.Bounds.{FixedOk, MovingOk, SensedOk, SlopeOk}
+use Rattle.pid.specs.Sample.{newY, sensedOf, transferred, roomOf, vOf, limitedV, backCalculated, integrated, newI, ordinaryOf, actedOf}
+use Rattle.pid.specs.Units.{reach, B}
+use Rattle.pid.specs.Bounds.{FixedOk, MovingOk, SensedOk}
 use Rattle.pid.proofs.Rounding.{rounded-within}
 use Rattle.pid.proofs.Arithmetic.{ramped-within, filtered-within, derivative-within, limited-within, clamped-within}
 use Rattle.pid.proofs.Shapes.{moving-is}

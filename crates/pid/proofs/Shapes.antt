@@ -1,5 +1,5 @@
 -- Records that are the same field by field.
-use mathlib.Core.Path.{_≡_, refl}
+use mathlib.Core.Path.{_≡_}
 use mathlib.Core.Bool.{Bool}
 use lib.IntN.{ℤ}
 use Rattle.pid.specs.declared.sample.Fixed.{Fixed}

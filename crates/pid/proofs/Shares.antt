@@ -1,13 +1,13 @@
 -- An ordinary sample within limits adds its share to the integral, and nothing else moves the integral between samples.
 use mathlib.Core.Path.{_≡_, refl, sym, ap, _∙_}
-use mathlib.Core.Bool.{Bool, true, false, not, cond, _&&_}
+use mathlib.Core.Bool.{true, not, cond, _&&_}
 use mathlib.Core.List.{List, [], _∷_}
 use native.Mathlib.Omega.{arith}
 use borrow.Author.Tests.{eqb-true, not-true}
 use lib.Dec.{eqb}
-use lib.IntN.{ℤ, pos, negsuc, _+ℤ_, _-ℤ_, _*ℤ_, *ℤ-zero, +ℤ-idr, +ℤ-assoc}
+use lib.IntN.{ℤ, pos, _+ℤ_, _-ℤ_, _*ℤ_, *ℤ-zero, +ℤ-idr, +ℤ-assoc}
 use lib.Signed.{ltZ, _≤ℤ_}
-use Rattle.whole.specs.Numbers.{plus, Within, eqZ}
+use Rattle.whole.specs.Numbers.{plus}
 use Rattle.whole.proofs.Truth.{both, chosen, cond-yes, cond-no}
 use Rattle.whole.proofs.Parts.{zs, eqZ-yes, Between}
 use Rattle.whole.proofs.Lin.{Lin, at, lins}
@@ -17,11 +17,11 @@ use Rattle.pid.specs.declared.record.Command.the-variants.{Sample, Hold,
 use Rattle.pid.specs.declared.sample.Fixed.{Fixed}
 use Rattle.pid.specs.declared.sample.Moving.{Moving}
 use Rattle.pid.specs.declared.sample.Sensed.{Sensed}
-use Rattle.pid.specs.Units.{B, reach, rounded}
+use Rattle.pid.specs.Units.{rounded}
 use Rattle.pid.specs.Record.{inReach, valid}
 use Rattle.pid.specs.Bounds.{FixedOk, MovingOk, SensedOk}
-use Rattle.pid.specs.Sample.{lesser, greater, limited, shareOf, vOf, limitedV, roomOf, clamped, backCalculated, integrated, newI, sensedOf, actedOf}
-use Rattle.pid.specs.Law.{fixedOf, movingOf, withMode, sampleOf, refusalOf, stepOf}
+use Rattle.pid.specs.Sample.{lesser, greater, limited, shareOf, vOf, limitedV, clamped, backCalculated, integrated, newI, actedOf}
+use Rattle.pid.specs.Law.{fixedOf, movingOf, sampleOf, refusalOf, stepOf}
 use Rattle.pid.specs.Run.{after, accepted, sensedAt, shareAt, withinLimits, ordinaryWithin, unbroken, shares}
 use Rattle.pid.proofs.Arithmetic.{limited-between}
 use Rattle.pid.proofs.Samples.{sensed-ok}

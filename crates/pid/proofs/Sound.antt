@@ -1,7 +1,7 @@
 -- The state rules by name, and what they say of the numbers that a sample reads.
-use Prim.Native.Nat.{ℕ, suc, _<_, _≤_}
-use mathlib.Core.Path.{_≡_, refl}
-use mathlib.Core.Bool.{Bool, true, false, cond, _&&_, _||_}
+use Prim.Native.Nat.{ℕ, suc}
+use mathlib.Core.Path.{_≡_}
+use mathlib.Core.Bool.{true, _&&_, _||_}
 use native.Mathlib.Omega.{arith}
 use borrow.Author.Tests.{ltb-true}
 use lib.Dec.{ltb}
@@ -9,15 +9,13 @@ use lib.IntN.{ℤ, pos, negsuc, _*ℤ_}
 use lib.Signed.{ltZ}
 use Rattle.whole.specs.Numbers.{Within, eqZ, inside}
 use Rattle.whole.proofs.Truth.{both, and, chosen}
-use Rattle.whole.proofs.Parts.{zs, inside-yes, yes-inside, Between}
-use Rattle.whole.proofs.Lin.{Lin, at, lins}
+use Rattle.whole.proofs.Parts.{zs, inside-yes, yes-inside}
+use Rattle.whole.proofs.Lin.{Lin, lins}
 use Rattle.whole.proofs.Num.{nums, stays}
-use Rattle.pid.specs.declared.settings.Settings.{Settings}
 use Rattle.pid.specs.declared.record.Loop.{Loop}
-use Rattle.pid.specs.Units.{B, reach, fineReach}
 use Rattle.pid.specs.Settings.{sets, gainsAt, inTable, ordered}
 use Rattle.pid.specs.Record.{inReach, inRates, inB, inFine, placesOk, fineOk, pendingOk, sound, lastOk, valid}
-use Rattle.pid.specs.Law.{signOf, fixedOf, movingOf}
+use Rattle.pid.specs.Law.{fixedOf, movingOf}
 use Rattle.pid.specs.Bounds.{FixedOk, MovingOk}
 use Rattle.pid.proofs.Table.{GainsIn, SettingsIn, settings-in}
 

@@ -1,5 +1,4 @@
 -- How large the numbers of a sample are: what the functions of its arithmetic may ask of their callers.
-use Prim.Native.Nat.{ℕ}
 use lib.IntN.{ℤ, pos}
 use lib.Signed.{_≤ℤ_, _<ℤ_}
 use Rattle.whole.specs.Numbers.{Within}

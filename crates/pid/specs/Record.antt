@@ -1,6 +1,6 @@
 -- 01, "What a loop remembers": the fresh loop, the blank, the state rules, and the making of a loop.
 use Prim.Native.Nat.{ℕ}
-use mathlib.Core.Bool.{Bool, true, false, not, cond, _&&_, _||_}
+use mathlib.Core.Bool.{Bool, false, not, cond, _&&_, _||_}
 use lib.Dec.{eqb, ltb}
 use lib.IntN.{ℤ, pos, negsuc}
 use Rattle.whole.specs.Numbers.{eqZ, inside}

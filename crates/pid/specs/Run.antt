@@ -1,6 +1,6 @@
 -- Commands given one after the other to the plain law, and what 01 and the demands say of such a run.
 use Prim.Native.Nat.{ℕ, suc, _+_, _-_, _/_}
-use mathlib.Core.Bool.{Bool, true, false, not, cond, _&&_}
+use mathlib.Core.Bool.{Bool, true, false, not, _&&_}
 use mathlib.Core.List.{List, [], _∷_}
 use lib.Dec.{eqb}
 use lib.IntN.{ℤ, pos, _+ℤ_, _-ℤ_}

@@ -1,6 +1,5 @@
 -- 01, "The law": a sample, step by step. Fixed holds what stays (the sign s, lo × F, hi × F, target, rate, mode, the gains
 -- in force), Moving what a sample moves (w, u, I, y, primed, pending), Sensed what its steps 1 to 3 find (w, y, e, P, D).
-use Prim.Native.Nat.{ℕ}
 use mathlib.Core.Bool.{Bool, true, false, not, cond, _&&_}
 use lib.IntN.{ℤ, pos, negsuc, _+ℤ_, _-ℤ_, _*ℤ_}
 use lib.Signed.{ltZ}

@@ -7,7 +7,7 @@ use native.Mathlib.Omega.{arith}
 use lib.IntN.{ℤ, pos, negsuc, negℤ, _+ℤ_, _*ℤ_}
 use lib.Signed.{shrZ, _≤ℤ_, _<ℤ_}
 use Rattle.whole.specs.Numbers.{plus, minus, Within}
-use Rattle.whole.proofs.Parts.{add-fact, plus-neg, minus-neg, plus-mul, minus-mul, le-in, le-out, lt-out, shr-fact, eq-out, zs}
+use Rattle.whole.proofs.Parts.{add-fact, plus-neg, minus-neg, plus-mul, minus-mul, le-in, le-out, shr-fact, eq-out, zs}
 
 pub record Lin (z : ℤ) : Type 0 where
   pub p : ℕ

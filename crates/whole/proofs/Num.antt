@@ -3,7 +3,7 @@
 -- `search nums` puts a `Num` together by the value's own expression, from bounds `Within N x` in reach; antt computes
 -- `top` and `ok`, so the side condition is `tt`.
 use mathlib.Core.Path.{_≡_, refl, sym, ap, ap₂, _∙_}
-use mathlib.Core.Bool.{Bool, true, false, _&&_}
+use mathlib.Core.Bool.{Bool, true, _&&_}
 use Prim.Native.Nat.{ℕ, suc, _+_, _*_, _/_, _^_, _≤_}
 use native.Mathlib.Nat.{le-trans}
 use native.Mathlib.Omega.{arith}
@@ -14,7 +14,6 @@ use mir.Syntax.{Width, w32, w64}
 use mir.Val.{SFits, hbits, toZ, ofZ}
 use mir.Facts.{toZ-ofZ, and-yes}
 use Rattle.whole.specs.Numbers.{size, Within}
-use Rattle.whole.proofs.Parts.{in-via}
 use Rattle.whole.proofs.Sizes.{size-add, size-neg, size-mul, size-shr, size-fits, fits-size}
 
 pub record Num (z : ℤ) : Type 0 where

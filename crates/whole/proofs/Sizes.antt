@@ -1,12 +1,11 @@
 -- How large sums, products and quotients can be.
 use mathlib.Core.Path.{_≡_, refl}
-use mathlib.Core.Bool.{Bool, not, cond}
-use Prim.Native.Nat.{ℕ, zero, suc, _+_, _*_, _/_, _%_, _^_, _<_, _≤_}
-use native.Mathlib.Nat.{le-trans, lt-of-le-of-lt, mul-le-mul, div-zero, le-div-iff-mul-le, div-mul-le-self, mod-lt}
+use Prim.Native.Nat.{ℕ, zero, suc, _+_, _*_, _/_, _^_, _≤_}
+use native.Mathlib.Nat.{le-trans, lt-of-le-of-lt, mul-le-mul, div-zero, le-div-iff-mul-le, div-mul-le-self}
 use native.Mathlib.Omega.{arith}
 use lib.Dec.{T, ltb, ltb→lt}
 use lib.IntN.{ℤ, pos, negsuc, negℤ, natAbs, _+ℤ_, _*ℤ_}
-use lib.Signed.{mag, shrZ, quotZ, remZ, natAbs-le}
+use lib.Signed.{mag, shrZ, natAbs-le}
 use mir.Syntax.{Width}
 use mir.Val.{SFits, hbits}
 use Rattle.whole.specs.Numbers.{plus, minus, size}

@@ -1,13 +1,13 @@
 -- DEMAND 1, of the plain law. "From any record that passes 01's state rules, power stays within the loop's limits and the
 -- integral within 01's bound." "A refused call changes no loop."
 use mathlib.Core.Path.{_≡_, refl}
-use mathlib.Core.Bool.{Bool, true, false, cond}
+use mathlib.Core.Bool.{true, false, cond}
 use borrow.Author.Tests.{eqb-true, eqb-false}
 use lib.Dec.{eqb}
-use lib.IntN.{ℤ, pos, negsuc, _+ℤ_, _-ℤ_, _*ℤ_}
+use lib.IntN.{ℤ, pos, _-ℤ_, _*ℤ_}
 use Rattle.whole.specs.Numbers.{Within, inside}
 use Rattle.whole.proofs.Truth.{chosen, cond-no, zero-if, zero-then}
-use Rattle.whole.proofs.Num.{nums, num-in, num-via, stays}
+use Rattle.whole.proofs.Num.{nums, stays}
 use Rattle.pid.specs.declared.settings.Settings.{Settings}
 use Rattle.pid.specs.declared.record.Loop.{Loop}
 use Rattle.pid.specs.declared.record.Command.{Command}
@@ -19,13 +19,13 @@ use Rattle.pid.specs.declared.sample.Sensed.{Sensed}
 use Rattle.pid.specs.Units.{F, reach, part, product}
 use Rattle.pid.specs.Settings.{rows, blankSettings, settingsRefusal, inTable, ordered}
 use Rattle.pid.specs.Record.{freshOf, blankLoop, madeOf, inReach, inB, valid}
-use Rattle.pid.specs.Sample.{sensedOf, shareOf, vOf, limitedV, newY}
+use Rattle.pid.specs.Sample.{sensedOf, shareOf, vOf, limitedV}
 use Rattle.pid.specs.Bounds.{FixedOk, MovingOk}
 use Rattle.pid.specs.Run.{sensedAt}
 use Rattle.pid.specs.Law.{fixedOf, movingOf, lawOf}
-use Rattle.pid.proofs.Sound.{Holds, to-sound, valid-of, holds-of, fixed-ok, moving-ok, in-range}
+use Rattle.pid.proofs.Sound.{to-sound, valid-of, holds-of, fixed-ok, moving-ok, in-range}
 use Rattle.pid.proofs.Samples.{sensed-ok}
-use Rattle.pid.proofs.Arithmetic.{limited-within, filtered-within}
+use Rattle.pid.proofs.Arithmetic.{limited-within}
 use Rattle.pid.proofs.Kept.{step-valid, fresh-holds, by-law}
 
 -- the record that comes back keeps the state rules

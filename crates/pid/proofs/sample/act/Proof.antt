@@ -3,7 +3,6 @@ use borrow.Author.Tests.{not-true, not-false}
 use Rattle.whole.proofs.Num.{nums, fits, gives}
 use Rattle.pid.proofs.Samples.{acted-manual, acted-transfer, acted-ordinary}
 use Rattle.pid.proofs.Shapes.{moving-is}
-use borrow.Author.Needs.{needs}
 use Rattle.pid.proofs.sample.act.Statement.{statement}
 use Rattle.pid.proofs.sample.act.Tie as tie
 

@@ -1,4 +1,4 @@
-use Rattle.whole.proofs.Num.{Num, nums, whole, num-back, num-via, fits, gives, test}
+use Rattle.whole.proofs.Num.{Num, nums, num-back, num-via, fits, gives, test}
 use Rattle.pid.specs.Sample.{clamped}
 use Rattle.pid.proofs.Arithmetic.{calls}
 use borrow.Author.Needs.{needs}

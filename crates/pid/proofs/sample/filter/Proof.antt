@@ -1,7 +1,6 @@
 use Rattle.whole.proofs.Num.{Num, nums, num-via, fits, stays, gives}
 use Rattle.pid.specs.Sample.{filtered}
 use Rattle.pid.proofs.Arithmetic.{calls}
-use borrow.Author.Needs.{needs}
 use Rattle.pid.proofs.sample.filter.Statement.{statement}
 use Rattle.pid.proofs.sample.filter.Tie as tie
 

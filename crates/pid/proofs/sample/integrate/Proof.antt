@@ -1,9 +1,8 @@
-use Rattle.whole.proofs.Num.{Num, nums, num-in, num-back, num-via, stays, gives, same4, test}
+use Rattle.whole.proofs.Num.{Num, nums, num-via, stays, same4, test}
 use Rattle.pid.specs.Sample.{integrated, clamped, backCalculated}
 use mathlib.Core.Path.{_∙_}
 use mir.Syntax.{w64}
 use Rattle.whole.proofs.Bits.{back}
-use borrow.Author.Needs.{needs}
 use Rattle.pid.proofs.sample.integrate.Statement.{statement}
 use Rattle.pid.proofs.sample.integrate.Tie as tie
 

@@ -1,4 +1,4 @@
-use Rattle.whole.proofs.Num.{Num, nums, num-via, fits, stays, gives, test}
+use Rattle.whole.proofs.Num.{Num, nums, num-via, fits, gives, test}
 use Rattle.pid.specs.Sample.{ramped}
 use Rattle.pid.proofs.Arithmetic.{calls}
 use borrow.Author.Needs.{needs}

@@ -1,6 +1,6 @@
 use mathlib.Core.Path.{refl}
 use Rattle.pid.specs.Units.{rounded}
-use Rattle.whole.proofs.Num.{nums, fits, gives, test}
+use Rattle.whole.proofs.Num.{nums, fits, gives}
 use Rattle.pid.proofs.sample.round.Statement.{statement}
 use Rattle.pid.proofs.sample.round.Tie as tie
 

@@ -3,12 +3,10 @@ use mir.Syntax.{w64}
 use Rattle.whole.proofs.Bits.{back}
 use Rattle.pid.proofs.Shapes.{sensed-is}
 use native.Mathlib.Omega.{arith}
-use lib.IntN.{pos}
 use Rattle.whole.proofs.Parts.{zs}
 use Rattle.whole.proofs.Num.{Num, nums, num-in, num-via, fits, stays, gives, same3, same4}
 use Rattle.pid.specs.Sample.{ramped, filtered, derivative, newW, newY, sensedOf}
 use Rattle.pid.proofs.Arithmetic.{ramped-within, filtered-within}
-use borrow.Author.Needs.{needs}
 use Rattle.pid.proofs.sample.sense.Statement.{statement}
 use Rattle.pid.proofs.sample.sense.Tie as tie
 

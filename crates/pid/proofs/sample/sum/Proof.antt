@@ -1,6 +1,5 @@
 use mathlib.Core.Path.{refl}
 use Rattle.whole.proofs.Num.{Num, nums, num-via, fits, gives}
-use borrow.Author.Needs.{needs}
 use Rattle.pid.proofs.sample.sum.Statement.{statement}
 use Rattle.pid.proofs.sample.sum.Tie as tie
 

@@ -1,4 +1,4 @@
-use mathlib.Core.Path.{_≡_, ap, ap₂, subst, sym, _∙_}
+use mathlib.Core.Path.{_≡_, ap, ap₂, _∙_}
 use mathlib.Core.Bool.{true}
 use lib.IntN.{ℤ}
 use mir.Facts.{toZ-ofZ}
@@ -10,7 +10,7 @@ use Rattle.pid.specs.declared.sample.Moving.{Moving}
 use Rattle.pid.specs.Units.{reach}
 use Rattle.pid.specs.Record.{inReach, valid}
 use Rattle.pid.specs.Sample.{sensedOf, actedOf, movedOf}
-use Rattle.pid.specs.Bounds.{FixedOk, MovingOk, SensedOk}
+use Rattle.pid.specs.Bounds.{FixedOk, MovingOk}
 use Rattle.pid.specs.Law.{fixedOf, movingOf, sampleOf}
 use Rattle.pid.proofs.Sound.{holds-of, fixed-ok, moving-ok, in-range}
 use Rattle.pid.proofs.Samples.{sensed-ok, acted-ok}

@@ -1,4 +1,3 @@
-use borrow.Author.Needs.{needs}
 use Rattle.pid.proofs.record.Loop.start.Statement.{statement}
 use Rattle.pid.proofs.record.Loop.start.Tie as tie
 

@@ -1,0 +1,495 @@
+//! Random and hostile inputs for the tests: settings, their text, loop records, deliveries and
+//! sample files.
+//!
+//! What is drawn depends on the stream of the [`Rng`] alone, so a seed names an input.
+
+use crate::delivery::{deliver, Delivery};
+use crate::journal::delivery_line;
+use crate::law::{Command, Loop, Mode};
+use crate::rng::Rng;
+use crate::settings::{GainSet, Row, Settings, ROWS};
+
+const LEAST_PV: i32 = -1_000_000;
+const MOST_PV: i32 = 1_000_000;
+const MOST_RATE: i32 = 2_000_000;
+
+/// A number in `least..=most`, often at an end, beside one, or near zero.
+pub fn within(rng: &mut Rng, least: i64, most: i64) -> i64 {
+    match rng.below(10) {
+        0 | 1 => least,
+        2 | 3 => most,
+        4 => (least + 1).min(most),
+        5 => (most - 1).max(least),
+        6 => rng.between(-3, 3).clamp(least, most),
+        _ => rng.between(least, most),
+    }
+}
+
+/// The same for the numbers of a command.
+fn within32(rng: &mut Rng, least: i32, most: i32) -> i32 {
+    let number = within(rng, i64::from(least), i64::from(most));
+    i32::try_from(number).expect("a number between two of 32 bits")
+}
+
+/// A number outside `least..=most`: one past an end, an end of the 32 bits, or anything else.
+fn outside32(rng: &mut Rng, least: i32, most: i32) -> i32 {
+    let any = rng.bits() as i32;
+    let past = rng.pick(&[least - 1, most + 1, i32::MIN, i32::MAX]);
+    if rng.one_in(4) && !(least..=most).contains(&any) {
+        any
+    } else {
+        past
+    }
+}
+
+/// A number mostly in `least..=most`, one time in ten outside.
+fn around32(rng: &mut Rng, least: i32, most: i32) -> i32 {
+    if rng.one_in(10) {
+        outside32(rng, least, most)
+    } else {
+        within32(rng, least, most)
+    }
+}
+
+/// Valid settings: half of them at the ends of the ranges, half of them of a loop that moves within
+/// its limits.
+pub fn settings(rng: &mut Rng) -> Settings {
+    if rng.one_in(2) {
+        extreme_settings(rng)
+    } else {
+        lively_settings(rng)
+    }
+}
+
+fn extreme_settings(rng: &mut Rng) -> Settings {
+    let values = ROWS.map(|row| within32(rng, row.least, row.most));
+    let mut settings = Settings::from_values(&values);
+    settings.lo = within32(rng, LEAST_PV, MOST_PV - 1);
+    settings.hi = within32(rng, settings.lo + 1, MOST_PV);
+    settings.out = within32(rng, settings.lo, settings.hi);
+    for set in &mut settings.sets {
+        if rng.one_in(2) {
+            set.kt = 0;
+        }
+    }
+    settings
+}
+
+fn lively_settings(rng: &mut Rng) -> Settings {
+    let lo = rng.between(-200_000, 0) as i32;
+    let hi = rng.between(1, 1_000_000) as i32;
+    Settings {
+        action: rng.below(2) as i32,
+        lo,
+        hi,
+        out: rng.between(i64::from(lo), i64::from(hi)) as i32,
+        sp: rng.between(-100_000, 100_000) as i32,
+        rate: rng.between(1, 5_000) as i32,
+        sets: [(); 4].map(|()| lively_gains(rng)),
+    }
+}
+
+fn lively_gains(rng: &mut Rng) -> GainSet {
+    GainSet {
+        kp: rng.between(0, 4 * Loop::F) as i32,
+        ki: rng.between(0, Loop::F / 4) as i32,
+        kd: rng.between(0, 2 * Loop::F) as i32,
+        alpha: within32(rng, 1, 65_536),
+        kt: if rng.one_in(2) { 0 } else { within32(rng, 1, 65_536) },
+    }
+}
+
+/// Settings that break one range or the order of the limits, or keep both.
+pub fn doubtful_settings(rng: &mut Rng) -> Settings {
+    let mut values = settings(rng).values();
+    for _ in 0..rng.below(3) {
+        let place = rng.below(values.len());
+        let Row { least, most, .. } = ROWS[place];
+        values[place] = around32(rng, least, most);
+        if rng.one_in(3) {
+            values[place] = outside32(rng, least, most);
+        }
+    }
+    Settings::from_values(&values)
+}
+
+/// A record that keeps the state rules, though most of these are never reached.
+pub fn record(rng: &mut Rng) -> Loop {
+    let settings = settings(rng);
+    let automatic = rng.one_in(2);
+    let primed = !rng.one_in(4);
+    let last = last_number(rng);
+    let mut record = Loop {
+        settings,
+        mode: if automatic { Mode::Automatic } else { Mode::Manual },
+        pending: automatic && rng.one_in(3),
+        set: rng.below(4) as i32,
+        w: within32(rng, LEAST_PV, MOST_PV),
+        target: within32(rng, LEAST_PV, MOST_PV),
+        rate: within32(rng, 1, MOST_RATE),
+        u: within32(rng, settings.lo, settings.hi),
+        integral: within(rng, -Loop::B, Loop::B),
+        primed,
+        y: if primed { within(rng, -Loop::Y, Loop::Y) } else { 0 },
+        last,
+        last_command: None,
+    };
+    if last > 0 {
+        let command = command(rng, &record);
+        record.last_command = Some(command);
+    }
+    record
+}
+
+fn last_number(rng: &mut Rng) -> u32 {
+    match rng.below(6) {
+        0 => 0,
+        1 => 1,
+        2 => u32::MAX - 1,
+        3 => u32::MAX,
+        4 => u32::MAX - rng.below(40) as u32,
+        _ => rng.bits() as u32,
+    }
+}
+
+/// A command for this record, in most cases one that the law accepts.
+pub fn command(rng: &mut Rng, record: &Loop) -> Command {
+    let limits = (record.settings.lo, record.settings.hi);
+    match rng.below(20) {
+        0 => Command::Automatic,
+        1 if record.mode == Mode::Manual => Command::Automatic,
+        2 => Command::Hold,
+        3 => Command::Put(around32(rng, limits.0, limits.1)),
+        4 | 5 => Command::Target {
+            target: around32(rng, LEAST_PV, MOST_PV),
+            rate: around32(rng, 1, MOST_RATE),
+        },
+        6 => target_nearby(rng, record),
+        7 => Command::Set(around32(rng, 0, 3)),
+        _ => Command::Sample(temperature(rng, record)),
+    }
+}
+
+/// A target that the ramp reaches within some samples.
+fn target_nearby(rng: &mut Rng, record: &Loop) -> Command {
+    Command::Target {
+        target: in_range(record.w + rng.between(-5_000, 5_000) as i32),
+        rate: rng.between(1, 1_000) as i32,
+    }
+}
+
+/// A temperature: near the working setpoint, near the filter, or anywhere; seldom out of range.
+fn temperature(rng: &mut Rng, record: &Loop) -> i32 {
+    let distance = rng.pick(&[3, 100, 5_000]);
+    let noise = rng.between(-distance, distance) as i32;
+    let measured = (record.y / Loop::F) as i32;
+    match rng.below(20) {
+        0..=9 => in_range(record.w + noise),
+        10..=15 => in_range(measured + noise),
+        16..=18 => within32(rng, LEAST_PV, MOST_PV),
+        _ => around32(rng, LEAST_PV, MOST_PV),
+    }
+}
+
+/// The nearest temperature in range.
+fn in_range(pv: i32) -> i32 {
+    pv.clamp(LEAST_PV, MOST_PV)
+}
+
+/// A list of deliveries from a fresh loop of these settings: every command, exact repeats, reused
+/// numbers, old numbers, number 0, gaps and bad values.
+pub fn deliveries(rng: &mut Rng, settings: &Settings, count: usize) -> Vec<Delivery> {
+    let (_, mut record) = Loop::make(settings);
+    let mut list = Vec::with_capacity(count);
+    for _ in 0..count {
+        let next = delivery(rng, &record);
+        deliver(&mut record, next.number, next.command);
+        list.push(next);
+    }
+    list
+}
+
+/// A delivery for this record, in three cases of five under the next number.
+pub fn delivery(rng: &mut Rng, record: &Loop) -> Delivery {
+    let last = u64::from(record.last);
+    let kept = record.last_command.unwrap_or(Command::Hold);
+    let command = command(rng, record);
+    let (number, command) = match rng.below(30) {
+        0..=3 => (last, kept),
+        4 => (last, almost(rng, kept)),
+        5 => (last, command),
+        6 => (rng.bits() % (last + 1), command),
+        7 => (last.max(1) - 1, kept),
+        8 => (0, command),
+        9 => (last + 2, command),
+        10 => (rng.bits() % (1 << 32), command),
+        11 => (u64::from(u32::MAX), command),
+        _ => (last + 1, command),
+    };
+    Delivery { number: number.min(u64::from(u32::MAX)) as u32, command }
+}
+
+/// A command that differs from this one in a single value, or in its word.
+fn almost(rng: &mut Rng, command: Command) -> Command {
+    let beside = |value: i32| if value == i32::MAX { 0 } else { value + 1 };
+    match command {
+        Command::Sample(pv) if rng.one_in(3) => Command::Put(pv),
+        Command::Sample(pv) => Command::Sample(beside(pv)),
+        Command::Hold => Command::Automatic,
+        Command::Put(x) => Command::Put(beside(x)),
+        Command::Automatic => Command::Hold,
+        Command::Target { target, rate } if rng.one_in(2) => {
+            Command::Target { target: beside(target), rate }
+        }
+        Command::Target { target, rate } => Command::Target { target, rate: beside(rate) },
+        Command::Set(k) => Command::Set(beside(k)),
+    }
+}
+
+/// The bytes of a deliveries file.
+pub fn deliveries_file(list: &[Delivery]) -> Vec<u8> {
+    let line = |delivery| format!("{}\n", delivery_line(delivery));
+    list.iter().map(line).collect::<String>().into_bytes()
+}
+
+/// A deliveries file in which a malformed line, or a last one without its line feed, ends the run.
+pub fn spoiled_deliveries_file(rng: &mut Rng, list: &[Delivery]) -> Vec<u8> {
+    let (before, after) = list.split_at(rng.below(list.len() + 1));
+    let mut file = deliveries_file(before);
+    file.extend(rng.pick(&MALFORMED_DELIVERIES));
+    if !rng.one_in(4) {
+        file.push(b'\n');
+        file.extend(deliveries_file(after));
+    }
+    file
+}
+
+/// Lines, without their line feeds, that are no deliveries.
+pub const MALFORMED_DELIVERIES: [&[u8]; 52] = [
+    b"",
+    b" ",
+    b"number=1",
+    b"number=1 command=hold",
+    b"number=1 command=hold value=0",
+    b"number=1 command=hold value=0 second=",
+    b"number=1 command=hold value=0 second=0 ",
+    b" number=1 command=hold value=0 second=0",
+    b"number=1  command=hold value=0 second=0",
+    b"number=1 command=hold value=0  second=0",
+    b"number=1\tcommand=hold value=0 second=0",
+    b"number=1 command=hold value=0 second=0\r",
+    b"number=1 command=hold value=0 second=0 code=0",
+    b"number=1 command=hold value=0 second=0 code=0 output=100 last=1",
+    b"number=1 command=hold second=0 value=0",
+    b"command=hold number=1 value=0 second=0",
+    b"Number=1 command=hold value=0 second=0",
+    b"number:1 command=hold value=0 second=0",
+    b"number==1 command=hold value=0 second=0",
+    b"number= command=hold value=0 second=0",
+    b"number=-1 command=hold value=0 second=0",
+    b"number=-0 command=hold value=0 second=0",
+    b"number=+1 command=hold value=0 second=0",
+    b"number=01 command=hold value=0 second=0",
+    b"number=00 command=hold value=0 second=0",
+    b"number=x command=hold value=0 second=0",
+    b"number=4294967296 command=hold value=0 second=0",
+    b"number=9999999999 command=hold value=0 second=0",
+    b"number=10000000000 command=hold value=0 second=0",
+    b"number=18446744073709551617 command=hold value=0 second=0",
+    b"number=1 command= value=0 second=0",
+    b"number=1 command=Hold value=0 second=0",
+    b"number=1 command=holds value=0 second=0",
+    b"number=1 command=hol value=0 second=0",
+    b"number=1 command=auto value=0 second=0",
+    b"number=1 command=hold value=1 second=0",
+    b"number=1 command=hold value=0 second=1",
+    b"number=1 command=automatic value=-1 second=0",
+    b"number=1 command=automatic value=0 second=-1",
+    b"number=1 command=sample value=480 second=1",
+    b"number=1 command=put value=480 second=1",
+    b"number=1 command=set value=1 second=1",
+    b"number=1 command=sample value=2147483648 second=0",
+    b"number=1 command=sample value=-2147483649 second=0",
+    b"number=1 command=sample value=4294967296 second=0",
+    b"number=1 command=sample value=00000000001 second=0",
+    b"number=1 command=sample value=-0 second=0",
+    b"number=1 command=sample value=0480 second=0",
+    b"number=1 command=sample value=+480 second=0",
+    b"number=1 command=sample value=480 second=-0",
+    b"number=1 command=target value=480 second=2147483648",
+    b"number=1 command=sample value=\xb480 second=0",
+];
+
+/// Temperatures in range for an automatic loop of these settings: it starts near sp and wanders,
+/// with a leap now and then.
+pub fn samples(rng: &mut Rng, settings: &Settings, count: usize) -> Vec<i32> {
+    let reach = rng.pick(&[2, 50, 2_000, 1_000_000]);
+    let mut pv = settings.sp;
+    let mut wander = |rng: &mut Rng| {
+        pv = in_range(pv + rng.between(-reach, reach) as i32);
+        if rng.one_in(50) {
+            pv = settings.sp;
+        }
+        if rng.one_in(200) {
+            pv = within32(rng, LEAST_PV, MOST_PV);
+        }
+        pv
+    };
+    (0..count).map(|_| wander(rng)).collect()
+}
+
+/// The bytes of a sample file.
+pub fn sample_file(samples: &[i32]) -> Vec<u8> {
+    let line = |pv| format!("{pv}\n");
+    samples.iter().map(line).collect::<String>().into_bytes()
+}
+
+/// A sample file that is refused somewhere: a malformed line, a temperature out of range, or no
+/// last line feed. After the bad line others follow, which no answer may show.
+pub fn spoiled_sample_file(rng: &mut Rng, samples: &[i32]) -> Vec<u8> {
+    let (before, after) = samples.split_at(rng.below(samples.len() + 1));
+    let mut file = sample_file(before);
+    if rng.one_in(4) {
+        file.extend(rng.pick(&[&b"480"[..], b"-", b"1000001", b"x"]));
+    } else {
+        file.extend(bad_sample_line(rng));
+        file.extend(sample_file(after));
+    }
+    file
+}
+
+/// A sample line, with its line feed, that is refused 14 or 4.
+pub fn bad_sample_line(rng: &mut Rng) -> Vec<u8> {
+    const MALFORMED: [&[u8]; 20] = [
+        b"\n",
+        b"x\n",
+        b"-\n",
+        b"-0\n",
+        b"00\n",
+        b"0480\n",
+        b"-0480\n",
+        b"+480\n",
+        b" 480\n",
+        b"480 \n",
+        b"480\r\n",
+        b"4 80\n",
+        b"--480\n",
+        b"4.8\n",
+        b"\t480\n",
+        b"480\0\n",
+        b"\xef\xbb\xbf480\n",
+        b"\xb480\n",
+        b"10000000\n",
+        b"-10000000\n",
+    ];
+    const OUT_OF_RANGE: [&[u8]; 4] = [b"1000001\n", b"-1000001\n", b"9999999\n", b"-9999999\n"];
+    match rng.below(3) {
+        0 => rng.pick(&OUT_OF_RANGE).to_vec(),
+        1 => rng.pick(&MALFORMED).to_vec(),
+        _ => {
+            let length = 1 + rng.below(100_000);
+            let mut line = vec![rng.pick(b"09-x"); length];
+            line.extend(b"x\n");
+            line
+        }
+    }
+}
+
+/// The same bytes with one to three pieces of damage.
+pub fn damaged(rng: &mut Rng, text: &[u8]) -> Vec<u8> {
+    let mut bytes = text.to_vec();
+    for _ in 0..1 + rng.below(3) {
+        damage(rng, &mut bytes);
+    }
+    bytes
+}
+
+/// One piece of damage.
+fn damage(rng: &mut Rng, bytes: &mut Vec<u8>) {
+    if bytes.is_empty() {
+        bytes.push(odd_byte(rng));
+        return;
+    }
+    let place = rng.below(bytes.len());
+    match rng.below(9) {
+        0 => bytes[place] = odd_byte(rng),
+        1 => {
+            bytes.remove(place);
+        }
+        2 => bytes.insert(place, odd_byte(rng)),
+        3 => duplicate_a_line(rng, bytes),
+        4 => swap_two_lines(rng, bytes),
+        5 => bytes.truncate(place),
+        6 => append(rng, bytes),
+        _ => change_a_value(rng, bytes),
+    }
+}
+
+/// A byte that texts are made of, or any byte at all.
+fn odd_byte(rng: &mut Rng) -> u8 {
+    let any = rng.bits() as u8;
+    rng.pick(&[b'0', b'1', b'9', b'-', b'=', b' ', b'\n', b'\r', b'+', b'.', b'k', 0, 255, any])
+}
+
+/// The lines with their line feeds, so far as they have one.
+fn pieces(bytes: &[u8]) -> Vec<Vec<u8>> {
+    bytes.split_inclusive(|&byte| byte == b'\n').map(<[u8]>::to_vec).collect()
+}
+
+fn duplicate_a_line(rng: &mut Rng, bytes: &mut Vec<u8>) {
+    let mut lines = pieces(bytes);
+    let place = rng.below(lines.len());
+    lines.insert(place, lines[place].clone());
+    *bytes = lines.concat();
+}
+
+fn swap_two_lines(rng: &mut Rng, bytes: &mut Vec<u8>) {
+    let mut lines = pieces(bytes);
+    let (one, other) = (rng.below(lines.len()), rng.below(lines.len()));
+    lines.swap(one, other);
+    *bytes = lines.concat();
+}
+
+fn append(rng: &mut Rng, bytes: &mut Vec<u8>) {
+    for _ in 0..1 + rng.below(4) {
+        bytes.push(odd_byte(rng));
+    }
+}
+
+/// Gives one `key=value` of a line another value, well formed or not.
+fn change_a_value(rng: &mut Rng, bytes: &mut Vec<u8>) {
+    const VALUES: [&[u8]; 22] = [
+        b"0",
+        b"1",
+        b"-1",
+        b"2",
+        b"65536",
+        b"65537",
+        b"1000000",
+        b"1000001",
+        b"-1000000",
+        b"-1000001",
+        b"2000000",
+        b"2000001",
+        b"4194304",
+        b"4194305",
+        b"9999999",
+        b"-9999999",
+        b"10000000",
+        b"4294967296",
+        b"-0",
+        b"00",
+        b"",
+        b"-",
+    ];
+    let mut lines = pieces(bytes);
+    let line = rng.below(lines.len());
+    let signs: Vec<usize> = (0..lines[line].len()).filter(|&at| lines[line][at] == b'=').collect();
+    if !signs.is_empty() {
+        let start = rng.pick(&signs) + 1;
+        let ends = |byte: &u8| *byte == b' ' || *byte == b'\n';
+        let length = lines[line][start..].iter().take_while(|b| !ends(b)).count();
+        lines[line].splice(start..start + length, rng.pick(&VALUES).iter().copied());
+    }
+    *bytes = lines.concat();
+}

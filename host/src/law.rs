@@ -1,0 +1,332 @@
+//! 01, "What a loop remembers" and "The law, one command at a time".
+
+use crate::refusal::Refusal;
+use crate::settings::{GainSet, Settings};
+use std::cmp::Ordering;
+use std::ops::RangeInclusive;
+
+/// Who moves the output: the operator or the law.
+#[derive(Debug, Clone, Copy, PartialEq, Eq)]
+pub enum Mode {
+    /// The output stays as it is held or put.
+    Manual,
+    /// Samples move the output.
+    Automatic,
+}
+
+/// A command with its values. Two are the same when their values are, too.
+#[derive(Debug, Clone, Copy, PartialEq, Eq)]
+pub enum Command {
+    /// A temperature pv.
+    Sample(i32),
+    /// "Manual, not pending; u stays."
+    Hold,
+    /// "Manual only: u = x."
+    Put(i32),
+    /// "From manual: automatic, pending."
+    Automatic,
+    /// "Both are taken; w stays until the next sample."
+    Target {
+        /// Where the setpoint shall go.
+        target: i32,
+        /// The most it moves in one sample.
+        rate: i32,
+    },
+    /// "The set in force: no effect. Another: it comes into force"
+    Set(i32),
+}
+
+/// All that a loop remembers.
+#[derive(Debug, Clone, Copy, PartialEq, Eq)]
+pub struct Loop {
+    /// The settings it was made from.
+    pub settings: Settings,
+    /// Manual or automatic.
+    pub mode: Mode,
+    /// "the next sample is a transfer sample"
+    pub pending: bool,
+    /// The gain set in force.
+    pub set: i32,
+    /// The working setpoint.
+    pub w: i32,
+    /// Where the working setpoint goes.
+    pub target: i32,
+    /// The most it moves in one sample.
+    pub rate: i32,
+    /// The output.
+    pub u: i32,
+    /// The integral I, a fine amount.
+    pub integral: i64,
+    /// Whether the filter has seen a temperature.
+    pub primed: bool,
+    /// The filter, "temperature times F".
+    pub y: i64,
+    /// The last number kept, 0 before the first.
+    pub last: u32,
+    /// The command kept under that number.
+    pub last_command: Option<Command>,
+}
+
+/// "round(x / F) is the floor of (x + 32,768) / F, for negative x too."
+pub fn round(x: i64) -> i64 {
+    (x + 32_768).div_euclid(Loop::F)
+}
+
+/// The plain law, which "knows no numbers": state rules, then content, then the command is carried
+/// out.
+///
+/// "Every refusal hands back the record that came in."
+pub fn obey(record: &mut Loop, command: Command) -> Result<(), Refusal> {
+    record.check()?;
+    record.content(command)?;
+    record.step(command);
+    Ok(())
+}
+
+/// "Fresh loops and the constants above belong to the loop's type."
+impl Loop {
+    /// "A *fine* amount is an output amount times F."
+    pub const F: i64 = 65_536;
+    /// The bound B of the integral.
+    pub const B: i64 = 16_842_752_000_000;
+    /// The bound of the filter.
+    pub const Y: i64 = 65_536_000_000;
+    /// "A temperature pv lies within ±1,000,000." Working setpoint and target do, too.
+    pub const TEMPERATURES: RangeInclusive<i32> = -1_000_000..=1_000_000;
+    /// The range of the rate.
+    pub const RATES: RangeInclusive<i32> = 1..=2_000_000;
+    /// The gain sets.
+    pub const SETS: RangeInclusive<i32> = 0..=3;
+
+    /// "every number zero, manual, every flag no, no last command. The blank breaks the state
+    /// rules"
+    pub fn blank() -> Loop {
+        Loop {
+            settings: Settings::default(),
+            mode: Mode::Manual,
+            pending: false,
+            set: 0,
+            w: 0,
+            target: 0,
+            rate: 0,
+            u: 0,
+            integral: 0,
+            primed: false,
+            y: 0,
+            last: 0,
+            last_command: None,
+        }
+    }
+
+    /// A code and the fresh loop: "Where making a loop or reading settings is refused, what stands
+    /// beside the code is the blank".
+    pub fn make(settings: &Settings) -> (i32, Loop) {
+        match settings.check() {
+            Ok(()) => (0, Loop::fresh(settings)),
+            Err(refusal) => (refusal.code(), Loop::blank()),
+        }
+    }
+
+    /// "manual, not pending, set 0, w = target = sp, rate and u as set, I = 0, not primed, y = 0,
+    /// last number 0"
+    fn fresh(settings: &Settings) -> Loop {
+        Loop {
+            settings: *settings,
+            w: settings.sp,
+            target: settings.sp,
+            rate: settings.rate,
+            u: settings.out,
+            ..Loop::blank()
+        }
+    }
+}
+
+/// The state rules, and the refusals of a command's content.
+impl Loop {
+    /// The state rules. "Every loop the software makes keeps them; some records that keep them are
+    /// never reached, and are served all the same."
+    pub fn check(&self) -> Result<(), Refusal> {
+        let kept = self.settings.check().is_ok()
+            && Self::TEMPERATURES.contains(&self.w)
+            && Self::TEMPERATURES.contains(&self.target)
+            && Self::RATES.contains(&self.rate)
+            && Self::SETS.contains(&self.set)
+            && self.limits().contains(&self.u)
+            && (-Self::B..=Self::B).contains(&self.integral)
+            && self.filter_in_order()
+            && !(self.pending && self.mode == Mode::Manual)
+            && self.last_command.is_none() == (self.last == 0);
+        if kept {
+            Ok(())
+        } else {
+            Err(Refusal::BrokenRecord)
+        }
+    }
+
+    /// "|y| at most 65,536,000,000, and y = 0 while not primed"
+    fn filter_in_order(&self) -> bool {
+        (-Self::Y..=Self::Y).contains(&self.y) && (self.primed || self.y == 0)
+    }
+
+    /// The output limits lo..hi.
+    fn limits(&self) -> RangeInclusive<i32> {
+        self.settings.lo..=self.settings.hi
+    }
+
+    /// "then content, with 6 before 5 and 7 before 8"
+    pub(crate) fn content(&self, command: Command) -> Result<(), Refusal> {
+        match command {
+            Command::Sample(pv) if !Self::TEMPERATURES.contains(&pv) => Err(Refusal::Temperature),
+            Command::Put(_) if self.mode == Mode::Automatic => Err(Refusal::PutWhileAutomatic),
+            Command::Put(x) if !self.limits().contains(&x) => Err(Refusal::PutOutside),
+            Command::Target { target, .. } if !Self::TEMPERATURES.contains(&target) => {
+                Err(Refusal::Target)
+            }
+            Command::Target { rate, .. } if !Self::RATES.contains(&rate) => Err(Refusal::Rate),
+            Command::Set(k) if !Self::SETS.contains(&k) => Err(Refusal::NoSuchSet),
+            _ => Ok(()),
+        }
+    }
+}
+
+/// The law itself, for a record that keeps the state rules and a command whose content is accepted.
+impl Loop {
+    /// Carries the command out.
+    pub(crate) fn step(&mut self, command: Command) {
+        match command {
+            Command::Sample(pv) => self.sample(pv),
+            Command::Hold => self.hold(),
+            Command::Put(x) => self.u = x,
+            Command::Automatic => self.automatic(),
+            Command::Target { target, rate } => {
+                self.target = target;
+                self.rate = rate;
+            }
+            Command::Set(k) => self.choose(k),
+        }
+    }
+
+    /// "accepted, the number and command are remembered"
+    pub(crate) fn remember(&mut self, number: u32, command: Command) {
+        self.last = number;
+        self.last_command = Some(command);
+    }
+
+    /// "Manual, not pending; u stays."
+    fn hold(&mut self) {
+        self.mode = Mode::Manual;
+        self.pending = false;
+    }
+
+    /// "From manual: automatic, pending. Already automatic: no effect."
+    fn automatic(&mut self) {
+        if self.mode == Mode::Manual {
+            self.mode = Mode::Automatic;
+            self.pending = true;
+        }
+    }
+
+    /// "The set in force: no effect. Another: it comes into force, and in automatic the loop
+    /// becomes pending. I and y stay."
+    fn choose(&mut self, k: i32) {
+        if k != self.set {
+            self.set = k;
+            if self.mode == Mode::Automatic {
+                self.pending = true;
+            }
+        }
+    }
+
+    /// A sample, in the law's six steps.
+    pub(crate) fn sample(&mut self, pv: i32) {
+        self.ramp();
+        let d = self.filter(pv);
+        let e = self.sign() * i64::from(self.w - pv);
+        let p = i64::from(self.gains().kp) * e;
+        match (self.mode, self.pending) {
+            (Mode::Manual, _) => {}
+            (Mode::Automatic, true) => self.transfer(p, d),
+            (Mode::Automatic, false) => self.ordinary(e, p, d),
+        }
+    }
+
+    /// Step 1: "w moves toward the target by the smaller of rate and the distance."
+    fn ramp(&mut self) {
+        let distance = (self.target - self.w).abs();
+        let move_by = distance.min(self.rate);
+        if self.w < self.target {
+            self.w += move_by;
+        } else {
+            self.w -= move_by;
+        }
+    }
+
+    /// Step 2, which gives D: "Not primed: y becomes pv × F, primed, D = 0. Primed: the new y is
+    /// y' = y + round((pv × F - y) × alpha / F), and D = round(kd × s × (y - y') / F)."
+    fn filter(&mut self, pv: i32) -> i64 {
+        let measured = i64::from(pv) * Self::F;
+        if !self.primed {
+            self.primed = true;
+            self.y = measured;
+            return 0;
+        }
+        let gains = self.gains();
+        let before = self.y;
+        self.y = before + round((measured - before) * i64::from(gains.alpha));
+        round(i64::from(gains.kd) * self.sign() * (before - self.y))
+    }
+
+    /// Step 5: "I = u × F - P - D, u stays, pending ends."
+    fn transfer(&mut self, p: i64, d: i64) {
+        self.integral = i64::from(self.u) * Self::F - p - d;
+        self.pending = false;
+    }
+
+    /// Step 6: "g = ki × e, v = P + I + g + D, U = v limited to lo × F..hi × F,
+    /// new u = round(U / F)."
+    fn ordinary(&mut self, e: i64, p: i64, d: i64) {
+        let gains = self.gains();
+        let low = i64::from(self.settings.lo) * Self::F;
+        let high = i64::from(self.settings.hi) * Self::F;
+        let g = i64::from(gains.ki) * e;
+        let v = p + self.integral + g + d;
+        let limited = v.clamp(low, high);
+        self.u = i32::try_from(round(limited)).expect("a rounded U lies in lo..hi");
+        self.integral = if gains.kt == 0 {
+            clamped(self.integral, g, low - p - d, high - p - d)
+        } else {
+            back_calculated(self.integral, g, i64::from(gains.kt), limited - v)
+        };
+    }
+
+    /// "0 heats (s = 1), 1 cools (s = -1)"
+    fn sign(&self) -> i64 {
+        if self.settings.action == 0 {
+            1
+        } else {
+            -1
+        }
+    }
+
+    /// The gain set in force, which the state rules keep within 0 to 3.
+    fn gains(&self) -> GainSet {
+        self.settings.sets[self.set as usize]
+    }
+}
+
+/// "With kt = 0: for g > 0 the new I is the larger of I and the smaller of I + g and
+/// hi × F - P - D; for g < 0 the smaller of I and the larger of I + g and lo × F - P - D;
+/// for g = 0, I stays."
+fn clamped(integral: i64, g: i64, bottom: i64, top: i64) -> i64 {
+    match g.cmp(&0) {
+        Ordering::Greater => integral.max((integral + g).min(top)),
+        Ordering::Less => integral.min((integral + g).max(bottom)),
+        Ordering::Equal => integral,
+    }
+}
+
+/// "With kt > 0: I + g + round(kt × (U - v) / F), then limited to ±B."
+fn back_calculated(integral: i64, g: i64, kt: i64, excess: i64) -> i64 {
+    let moved = integral + g + round(kt * excess);
+    moved.clamp(-Loop::B, Loop::B)
+}

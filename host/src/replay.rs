@@ -1,0 +1,63 @@
+//! 01, "Replay": many samples under consecutive numbers.
+
+use crate::law::{Command, Loop};
+use crate::refusal::Refusal;
+
+/// What a replay answers beside the record and the list.
+#[derive(Debug, Clone, Copy, PartialEq, Eq)]
+pub struct Replayed {
+    /// 0, or 01's code of the refusal.
+    pub code: i32,
+    /// "the place of the first bad sample. Places are counted from 0; for every code but 4 the
+    /// place is 0."
+    pub place: usize,
+    /// How many samples were kept: all of them, or none on a refusal.
+    pub count: usize,
+}
+
+/// "On success the record and outputs are those of delivering the n samples in order; the first n
+/// places hold the outputs, every later place keeps its number, and the count is n."
+///
+/// "On a refusal neither record nor list changes, and the count is 0."
+pub fn replay(record: &mut Loop, first: u32, samples: &[i32], outputs: &mut [i32]) -> Replayed {
+    if let Err((refusal, place)) = judge(record, first, samples, outputs.len()) {
+        return Replayed { code: refusal.code(), place, count: 0 };
+    }
+    for (&pv, output) in samples.iter().zip(outputs) {
+        record.sample(pv);
+        *output = record.u;
+    }
+    if let Some(&pv) = samples.last() {
+        let kept = u32::try_from(samples.len()).expect("no more samples than numbers left");
+        record.remember(record.last + kept, Command::Sample(pv));
+    }
+    Replayed { code: 0, place: 0, count: samples.len() }
+}
+
+/// "Order: 10; first number 0 or at most last: 1; above last + 1: 3; 12; 13; then 4, with the place
+/// of the first bad sample."
+fn judge(
+    record: &Loop,
+    first: u32,
+    samples: &[i32],
+    places: usize,
+) -> Result<(), (Refusal, usize)> {
+    record.check().map_err(|broken| (broken, 0))?;
+    if first == 0 || first <= record.last {
+        return Err((Refusal::OldNumber, 0));
+    }
+    if first - record.last > 1 {
+        return Err((Refusal::NumberAhead, 0));
+    }
+    if places < samples.len() {
+        return Err((Refusal::OutputsShort, 0));
+    }
+    let numbers_left = u32::MAX - record.last;
+    if samples.len() as u64 > u64::from(numbers_left) {
+        return Err((Refusal::NumbersUsedUp, 0));
+    }
+    match samples.iter().position(|pv| !Loop::TEMPERATURES.contains(pv)) {
+        Some(place) => Err((Refusal::Temperature, place)),
+        None => Ok(()),
+    }
+}

@@ -1,0 +1,89 @@
+//! 01, "Settings text": the reader and the writer.
+
+use crate::decimal;
+use crate::refusal::{code, Refusal};
+use crate::settings::{Row, Settings, ROWS};
+
+/// What the reader answers.
+#[derive(Debug, Clone, Copy, PartialEq, Eq)]
+pub struct Reading {
+    /// 0, or 01's code of the refusal.
+    pub code: i32,
+    /// The refused line, from 1. "Codes other than 14 and 15 report line 0."
+    pub line: usize,
+    /// The settings, blank on a refusal.
+    pub settings: Settings,
+}
+
+/// What the writer answers.
+#[derive(Debug, Clone, Copy, PartialEq, Eq)]
+pub struct Writing {
+    /// 0, or 01's code of the refusal.
+    pub code: i32,
+    /// The length of the text, "0 on refusal".
+    pub length: usize,
+}
+
+/// Reads a settings text.
+pub fn read(text: &[u8]) -> Reading {
+    match parse(text) {
+        Ok(settings) => Reading { code: 0, line: 0, settings },
+        Err((refusal, line)) => {
+            Reading { code: refusal.code(), line, settings: Settings::default() }
+        }
+    }
+}
+
+/// "Lines count from 1 and are tested in order, 14 before 15 in each. [..] Then 17, then 16."
+fn parse(text: &[u8]) -> Result<Settings, (Refusal, usize)> {
+    let mut lines = text.split_inclusive(|&byte| byte == b'\n');
+    let mut values = [0; 26];
+    for (index, row) in ROWS.iter().enumerate() {
+        let line = lines.next().unwrap_or(b"");
+        values[index] = value(line, row).map_err(|refusal| (refusal, index + 1))?;
+    }
+    if lines.next().is_some() {
+        return Err((Refusal::BytesAfter, 0));
+    }
+    let settings = Settings::from_values(&values);
+    settings.check().map_err(|refusal| (refusal, 0))?;
+    Ok(settings)
+}
+
+/// The value of a line that comes with its line feed, if it has one.
+fn value(line: &[u8], row: &Row) -> Result<i32, Refusal> {
+    let value = well_formed(line, row.key).ok_or(Refusal::LineForm)?;
+    if row.allows(value) {
+        Ok(value)
+    } else {
+        Err(Refusal::LineValue)
+    }
+}
+
+/// "each key, `=`, value, one line feed (byte 10)"
+fn well_formed(line: &[u8], key: &str) -> Option<i32> {
+    let after_key = line.strip_prefix(key.as_bytes())?;
+    let written = after_key.strip_prefix(b"=")?.strip_suffix(b"\n")?;
+    decimal::setting(written)
+}
+
+/// "The writer tests 11, 16, 18, writes from the buffer's first byte, leaves bytes after the text,
+/// and answers the length, 0 on refusal."
+pub fn write(settings: &Settings, buffer: &mut [u8]) -> Writing {
+    let outcome = settings.check().and_then(|()| fill(settings, buffer));
+    Writing { code: code(outcome.map(|_| ())), length: outcome.unwrap_or(0) }
+}
+
+/// Puts the text at the front of the buffer and gives its length.
+fn fill(settings: &Settings, buffer: &mut [u8]) -> Result<usize, Refusal> {
+    let text = lines_of(settings);
+    let front = buffer.get_mut(..text.len()).ok_or(Refusal::BufferShort)?;
+    front.copy_from_slice(text.as_bytes());
+    Ok(text.len())
+}
+
+/// The 26 lines of any settings record, in range or not.
+pub fn lines_of(settings: &Settings) -> String {
+    let line = |(row, value): (&Row, i32)| format!("{}={value}\n", row.key);
+    ROWS.iter().zip(settings.values()).map(line).collect()
+}

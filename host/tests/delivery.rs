@@ -1,0 +1,180 @@
+//! 01, "Numbered delivery", and the walk of demand 3 over the plain law.
+
+use host::delivery::{deliver, Answer, Delivery};
+use host::example;
+use host::gen;
+use host::law::{obey, Command, Loop};
+use host::refusal::code;
+use host::rng::for_each_seed;
+use Command::{Automatic, Hold, Put, Sample, Set};
+
+fn answer(code: i32, output: i32, last: u32) -> Answer {
+    Answer { code, output, last }
+}
+
+/// A loop from C that has kept sample 480 as number 1 and put 70 as number 2.
+fn two_kept() -> Loop {
+    let mut record = example::fresh();
+    assert_eq!(deliver(&mut record, 1, Sample(480)), answer(0, 100, 1));
+    assert_eq!(deliver(&mut record, 2, Put(70)), answer(0, 70, 2));
+    record
+}
+
+/// Delivers and asserts that nothing changes.
+fn unkept(record: &Loop, number: u32, command: Command) -> Answer {
+    let mut tried = *record;
+    let answer = deliver(&mut tried, number, command);
+    assert_eq!(tried, *record, "number {number} {command:?}");
+    answer
+}
+
+#[test]
+fn numbers_are_judged_as_the_table_says() {
+    let record = two_kept();
+    assert_eq!(unkept(&record, 0, Hold), answer(1, 70, 2));
+    assert_eq!(unkept(&record, 1, Sample(480)), answer(1, 70, 2));
+    assert_eq!(unkept(&record, 2, Put(70)), answer(0, 70, 2));
+    assert_eq!(unkept(&record, 2, Put(71)), answer(2, 70, 2));
+    assert_eq!(unkept(&record, 2, Sample(70)), answer(2, 70, 2));
+    assert_eq!(unkept(&record, 4, Hold), answer(3, 70, 2));
+    assert_eq!(unkept(&record, u32::MAX, Hold), answer(3, 70, 2));
+}
+
+#[test]
+fn before_the_first_only_number_1_is_tried() {
+    let fresh = example::fresh();
+    assert_eq!(unkept(&fresh, 0, Hold), answer(1, 100, 0));
+    assert_eq!(unkept(&fresh, 2, Hold), answer(3, 100, 0));
+    assert_eq!(deliver(&mut fresh.clone(), 1, Hold), answer(0, 100, 1));
+}
+
+/// "Remembering a refused command's number, so that the corrected one is called a reuse."
+#[test]
+fn a_refused_number_stays_free() {
+    let mut record = two_kept();
+    assert_eq!(unkept(&record, 3, Sample(1_000_001)), answer(4, 70, 2));
+    assert_eq!(unkept(&record, 3, Put(1_001)), answer(5, 70, 2));
+    assert_eq!(deliver(&mut record, 3, Sample(480)), answer(0, 70, 3));
+}
+
+#[test]
+fn a_repeat_needs_every_value() {
+    let aim = |target, rate| Command::Target { target, rate };
+    let mut record = two_kept();
+    assert_eq!(deliver(&mut record, 3, aim(600, 10)), answer(0, 70, 3));
+    assert_eq!(unkept(&record, 3, aim(600, 10)).code, 0);
+    assert_eq!(unkept(&record, 3, aim(600, 11)).code, 2);
+    assert_eq!(unkept(&record, 3, aim(601, 10)).code, 2);
+    assert_eq!(unkept(&record, 3, aim(10, 600)).code, 2);
+    assert_eq!(deliver(&mut record, 4, Set(2)), answer(0, 70, 4));
+    assert_eq!(unkept(&record, 4, Set(2)).code, 0);
+    assert_eq!(unkept(&record, 4, Set(1)).code, 2);
+    assert_eq!(unkept(&record, 4, Put(2)).code, 2);
+    assert_eq!(deliver(&mut record, 5, Hold), answer(0, 70, 5));
+    assert_eq!(unkept(&record, 5, Hold).code, 0);
+    assert_eq!(unkept(&record, 5, Automatic).code, 2);
+}
+
+/// A command of no effect is accepted all the same, and its number kept.
+#[test]
+fn commands_of_no_effect_are_kept() {
+    let mut record = example::fresh();
+    for (number, command) in (1..).zip([Automatic, Automatic, Set(0), Hold, Hold]) {
+        assert_eq!(deliver(&mut record, number, command), answer(0, 100, number));
+        assert_eq!(record.pending, number <= 3);
+    }
+}
+
+/// Content is tested at last + 1 only: a repeat of a remembered command is served even where the
+/// law would refuse it, in an unreached record.
+#[test]
+fn a_repeat_is_served_whatever_its_content() {
+    for command in [Sample(i32::MIN), Put(5_000), Set(9), Command::Target { target: 0, rate: 0 }] {
+        let record = Loop { last: 9, last_command: Some(command), ..example::fresh() };
+        assert_eq!(unkept(&record, 9, command), answer(0, 100, 9));
+        assert_ne!(unkept(&record, 10, command).code, 0);
+    }
+}
+
+/// "After number 4,294,967,295 only its repeat is served."
+#[test]
+fn after_the_last_number_only_its_repeat_is_served() {
+    let last = 4_294_967_295;
+    let mut record = Loop { last: last - 1, last_command: Some(Hold), ..example::fresh() };
+    assert_eq!(unkept(&record, last, Put(-1)), answer(5, 100, last - 1));
+    assert_eq!(deliver(&mut record, last, Put(50)), answer(0, 50, last));
+    assert_eq!(unkept(&record, last, Put(50)), answer(0, 50, last));
+    assert_eq!(unkept(&record, last, Put(51)), answer(2, 50, last));
+    for number in [0, 1, 2, last - 1] {
+        assert_eq!(unkept(&record, number, Put(50)), answer(1, 50, last));
+    }
+}
+
+/// Demand 3's walk: it knows the plain law, the count kept so far and the latest kept command.
+struct Walk {
+    record: Loop,
+    kept: u32,
+    latest: Option<Command>,
+}
+
+impl Walk {
+    /// "keeping a delivery when its number is one more than the count kept so far and the law
+    /// accepts its content in the state reached"
+    fn answer(&mut self, delivery: &Delivery) -> Answer {
+        let code = if delivery.number == self.kept + 1 {
+            let code = code(obey(&mut self.record, delivery.command));
+            if code == 0 {
+                self.kept += 1;
+                self.latest = Some(delivery.command);
+            }
+            code
+        } else if delivery.number > self.kept {
+            3
+        } else if delivery.number == 0 || delivery.number < self.kept {
+            1
+        } else if self.latest == Some(delivery.command) {
+            0
+        } else {
+            2
+        };
+        answer(code, self.record.u, self.kept)
+    }
+}
+
+/// "The end state is the law's after the kept commands, each given once."
+#[test]
+fn any_list_is_walked_as_demand_3_says() {
+    let mut kept = 0;
+    for_each_seed(500, |rng| {
+        let settings = gen::settings(rng);
+        let list = gen::deliveries(rng, &settings, 300);
+        let mut record = Loop::make(&settings).1;
+        let mut walk = Walk { record, kept: 0, latest: None };
+        for delivery in &list {
+            let expected = walk.answer(delivery);
+            let answered = deliver(&mut record, delivery.number, delivery.command);
+            assert_eq!(answered, expected, "{delivery:?}");
+        }
+        let end = Loop { last: walk.kept, last_command: walk.latest, ..walk.record };
+        assert_eq!(record, end);
+        kept += walk.kept;
+    });
+    assert!(kept > 50_000, "{kept} kept");
+}
+
+/// Every list gives the same end state with each delivery doubled: "a second delivery of it must
+/// write nothing".
+#[test]
+fn a_doubled_list_ends_in_the_same_state() {
+    for_each_seed(200, |rng| {
+        let settings = gen::settings(rng);
+        let list = gen::deliveries(rng, &settings, 100);
+        let (mut once, mut twice) = (Loop::make(&settings).1, Loop::make(&settings).1);
+        for delivery in list {
+            let first = deliver(&mut once, delivery.number, delivery.command);
+            assert_eq!(deliver(&mut twice, delivery.number, delivery.command), first);
+            assert_eq!(deliver(&mut twice, delivery.number, delivery.command), first);
+        }
+        assert_eq!(once, twice);
+    });
+}

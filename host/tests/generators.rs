@@ -1,0 +1,118 @@
+//! The generators give what the other tests need of them: nothing that matters stays unreached.
+
+use host::delivery::deliver;
+use host::gen;
+use host::law::{Command, Loop, Mode};
+use host::rng::{for_each_seed, Rng};
+use host::settings::ROWS;
+
+#[test]
+fn a_seed_names_its_stream() {
+    let draw = |seed| {
+        let mut rng = Rng::new(seed);
+        [rng.bits(), rng.bits(), rng.bits()]
+    };
+    assert_eq!(draw(7), draw(7));
+    assert_ne!(draw(7), draw(8));
+    // The published first numbers of SplitMix64 for the seed 1234567.
+    let published =
+        [6_457_827_717_110_365_317, 3_203_168_211_198_807_973, 9_817_491_932_198_370_423];
+    assert_eq!(draw(1_234_567), published);
+}
+
+/// The ends of each range; since lo < hi, lo never has its most and hi never its least.
+fn ends() -> [(i32, i32); 26] {
+    ROWS.map(|row| match row.key {
+        "lo" => (row.least, row.most - 1),
+        "hi" => (row.least + 1, row.most),
+        _ => (row.least, row.most),
+    })
+}
+
+#[test]
+fn settings_are_valid_and_reach_both_ends_of_every_range() {
+    let mut reached = [(0, 0); 26];
+    let mut forms = [0; 2];
+    for_each_seed(2_000, |rng| {
+        let settings = gen::settings(rng);
+        assert_eq!(settings.check(), Ok(()));
+        let placed = settings.values().into_iter().zip(ends());
+        for (count, (value, (least, most))) in reached.iter_mut().zip(placed) {
+            count.0 += i32::from(value == least);
+            count.1 += i32::from(value == most);
+        }
+        forms[usize::from(settings.sets[0].kt == 0)] += 1;
+    });
+    for (row, count) in ROWS.iter().zip(reached) {
+        assert!(count.0 > 20 && count.1 > 20, "{}: {count:?}", row.key);
+    }
+    assert!(forms[0] > 500 && forms[1] > 500, "back-calculation and clamping {forms:?}");
+}
+
+#[test]
+fn deliveries_reach_every_command_code_and_kind_of_sample() {
+    let mut codes = [0; 10];
+    let mut kept = [0; 6];
+    let mut samples = [0; 3];
+    let mut at_limits = [0; 3];
+    let mut repeats = 0;
+    for_each_seed(300, |rng| {
+        let settings = gen::settings(rng);
+        let mut record = Loop::make(&settings).1;
+        for next in gen::deliveries(rng, &settings, 200) {
+            let before = record;
+            let answer = deliver(&mut record, next.number, next.command);
+            codes[answer.code as usize] += 1;
+            repeats += i32::from(answer.code == 0 && record.last == before.last);
+            if record.last != before.last {
+                let (word, kind) = match (next.command, before.mode, before.pending) {
+                    (Command::Sample(_), Mode::Manual, _) => (0, Some(0)),
+                    (Command::Sample(_), _, true) => (0, Some(1)),
+                    (Command::Sample(_), _, false) => (0, Some(2)),
+                    (Command::Hold, ..) => (1, None),
+                    (Command::Put(_), ..) => (2, None),
+                    (Command::Automatic, ..) => (3, None),
+                    (Command::Target { .. }, ..) => (4, None),
+                    (Command::Set(_), ..) => (5, None),
+                };
+                kept[word] += 1;
+                if let Some(kind) = kind {
+                    samples[kind] += 1;
+                }
+                if kind == Some(2) {
+                    let low = record.u == settings.lo;
+                    let high = record.u == settings.hi;
+                    at_limits[usize::from(low) + 2 * usize::from(high)] += 1;
+                }
+            }
+        }
+    });
+    assert!(codes.iter().all(|&count| count > 30), "codes {codes:?}");
+    assert!(kept.iter().all(|&count| count > 500), "kept commands {kept:?}");
+    assert!(samples.iter().all(|&count| count > 500), "manual, transfer, ordinary {samples:?}");
+    assert!(at_limits.iter().all(|&count| count > 500), "between, low, high {at_limits:?}");
+    assert!(repeats > 500, "{repeats} repeats");
+}
+
+#[test]
+fn records_are_valid_and_of_every_kind() {
+    let mut kinds = [0; 8];
+    for_each_seed(3_000, |rng| {
+        let record = gen::record(rng);
+        assert_eq!(record.check(), Ok(()));
+        let marks = [
+            record.mode == Mode::Automatic,
+            record.pending,
+            record.primed,
+            record.last == 0,
+            record.last == u32::MAX,
+            record.integral.abs() == Loop::B,
+            record.y.abs() == Loop::Y,
+            record.settings.action == 1,
+        ];
+        for (kind, mark) in kinds.iter_mut().zip(marks) {
+            *kind += i32::from(mark);
+        }
+    });
+    assert!(kinds.iter().all(|&count| count > 100), "{kinds:?}");
+}

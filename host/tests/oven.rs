@@ -1,0 +1,130 @@
+//! 01's program: its example, and how each line is answered.
+
+use host::delivery::deliver;
+use host::example::{self, C};
+use host::gen;
+use host::law::{Command, Loop};
+use host::oven::{run, serve};
+use host::rng::for_each_seed;
+use host::text::lines_of;
+
+fn with_c(samples: &str) -> String {
+    run(C.as_bytes(), samples.as_bytes())
+}
+
+/// "With settings C and samples 480, 480, 478 the whole output is three lines: 100, 105, 113."
+#[test]
+fn the_example_of_01() {
+    assert_eq!(with_c("480\n480\n478\n"), "100\n105\n113\n");
+}
+
+#[test]
+fn a_refusal_ends_a_run_under_way_at_its_line() {
+    assert_eq!(with_c("480\n480\nx\n"), "100\n105\nrefused 14 3\n");
+    assert_eq!(with_c("480\n480\n1000001\n"), "100\n105\nrefused 4 3\n");
+    assert_eq!(with_c("x\n480\n"), "refused 14 1\n");
+    assert_eq!(with_c("480\n-1000001\n480\n"), "100\nrefused 4 2\n");
+}
+
+/// What is written never depends on what follows the first refusal.
+#[test]
+fn lines_are_judged_one_by_one() {
+    assert_eq!(with_c("480\n1000001\nx\n"), "100\nrefused 4 2\n");
+    assert_eq!(with_c("480\nx\n1000001\n"), "100\nrefused 14 2\n");
+    assert_eq!(with_c("1000001\n480"), "refused 4 1\n");
+}
+
+#[test]
+fn the_last_line_needs_its_line_feed() {
+    assert_eq!(with_c("480"), "refused 14 1\n");
+    assert_eq!(with_c("480\n480"), "100\nrefused 14 2\n");
+    assert_eq!(with_c("480\n1000001"), "100\nrefused 14 2\n");
+    assert_eq!(with_c("480\n\n"), "100\nrefused 14 2\n");
+    assert_eq!(with_c("480\n \n"), "100\nrefused 14 2\n");
+}
+
+#[test]
+fn an_empty_sample_file_writes_nothing() {
+    assert_eq!(with_c(""), "");
+    assert_eq!(with_c("\n"), "refused 14 1\n");
+}
+
+#[test]
+fn samples_have_the_decimal_form_of_the_settings() {
+    for line in ["-0", "00", "0480", "+480", " 480", "480 ", "480\r", "10000000", "4.8", "-"] {
+        assert_eq!(with_c(&format!("{line}\n")), "refused 14 1\n", "{line}");
+    }
+    for line in ["9999999", "-9999999", "1000001", "-1000001"] {
+        assert_eq!(with_c(&format!("{line}\n")), "refused 4 1\n", "{line}");
+    }
+    for line in ["0", "-1", "1000000", "-1000000"] {
+        assert_eq!(with_c(&format!("{line}\n")), "100\n", "{line}");
+    }
+    assert_eq!(run(C.as_bytes(), b"480\n\xff\n"), "100\nrefused 14 2\n");
+}
+
+/// "the line is 0 for codes 16 and 17"; a refusal of the settings reports the settings' line.
+#[test]
+fn refused_settings_end_the_run_before_any_sample() {
+    let refused = |settings: String| run(settings.as_bytes(), b"480\nx\n");
+    assert_eq!(refused(String::new()), "refused 14 1\n");
+    assert_eq!(refused(C.replace("rate=50\n", "rate=\n")), "refused 14 6\n");
+    assert_eq!(refused(C.replace("kt3=0\n", "kt3=65537\n")), "refused 15 26\n");
+    assert_eq!(refused(C.replace("hi=1000\n", "hi=0\n")), "refused 16 0\n");
+    assert_eq!(refused(format!("{C}x")), "refused 17 0\n");
+    assert_eq!(run(b"x", b""), "refused 14 1\n", "no samples, and yet told");
+}
+
+/// "delivers automatic as number 1 and the samples from number 2 on": line k has number k + 1.
+#[test]
+fn a_sample_past_number_4_294_967_295_is_13() {
+    let mut record = example::fresh();
+    deliver(&mut record, 1, Command::Automatic);
+    assert_eq!(serve(&mut record, b"480\n480\n478\n"), "100\n105\n113\n");
+    assert_eq!(record.last, 4);
+    record.last = u32::MAX - 2;
+    assert_eq!(serve(&mut record, b"478\n478\n478\n1\n"), "118\n124\nrefused 13 3\n");
+    assert_eq!(record.last, u32::MAX);
+    assert_eq!(serve(&mut record, b"478\n"), "refused 13 1\n");
+    assert_eq!(serve(&mut record, b""), "");
+}
+
+/// Files of more than one piece of 64 KiB, answered as single deliveries.
+#[test]
+fn long_files_are_answered_line_by_line() {
+    for_each_seed(10, |rng| {
+        let settings = gen::settings(rng);
+        let samples = gen::samples(rng, &settings, 40_000);
+        let file = gen::sample_file(&samples);
+        assert!(file.len() > 64 * 1024);
+        let mut record = Loop::make(&settings).1;
+        deliver(&mut record, 1, Command::Automatic);
+        let mut expected = String::new();
+        for (number, &pv) in (2..).zip(&samples) {
+            let answer = deliver(&mut record, number, Command::Sample(pv));
+            expected += &format!("{}\n", answer.output);
+        }
+        assert_eq!(run(lines_of(&settings).as_bytes(), &file), expected);
+    });
+}
+
+/// A spoiled file gives the front of the good file's output and one `refused` line.
+#[test]
+fn a_spoiled_file_is_answered_up_to_its_bad_line() {
+    let mut codes = [0; 15];
+    for_each_seed(500, |rng| {
+        let settings = gen::settings(rng);
+        let text = lines_of(&settings).into_bytes();
+        let count = rng.below(40);
+        let samples = gen::samples(rng, &settings, count);
+        let good = run(&text, &gen::sample_file(&samples));
+        let spoiled = run(&text, &gen::spoiled_sample_file(rng, &samples));
+        let at = spoiled.find("refused ").expect("a refusal");
+        assert!(good.starts_with(&spoiled[..at]), "the outputs before it stand");
+        let line = spoiled[..at].matches('\n').count() + 1;
+        let code = if spoiled[at..].starts_with("refused 4 ") { 4 } else { 14 };
+        codes[code] += 1;
+        assert_eq!(spoiled[at..], format!("refused {code} {line}\n"));
+    });
+    assert!(codes[4] > 50 && codes[14] > 50, "{codes:?}");
+}

@@ -1,0 +1,213 @@
+//! 01's table of codes: each is reached, and they come in 01's order.
+
+use host::delivery::deliver;
+use host::example::{self, C};
+use host::law::{Command, Loop};
+use host::oven;
+use host::refusal::{code, Refusal};
+use host::replay::{replay, Replayed};
+use host::settings::Settings;
+use host::text;
+use Command::{Automatic, Hold, Put, Sample, Set};
+
+/// The code of one delivery to a loop from C that has kept these commands.
+fn delivered(kept: &[Command], number: u32, command: Command) -> i32 {
+    let mut record = example::fresh();
+    for (number, &command) in (1..).zip(kept) {
+        assert_eq!(deliver(&mut record, number, command).code, 0);
+    }
+    let before = record;
+    let answer = deliver(&mut record, number, command);
+    assert!(answer.code == 0 || record == before, "refused, yet changed");
+    assert_eq!((answer.output, answer.last), (record.u, record.last));
+    answer.code
+}
+
+fn aim(target: i32, rate: i32) -> Command {
+    Command::Target { target, rate }
+}
+
+/// Settings C with one line in place of another.
+fn c_with(line: &str, other: &str) -> Vec<u8> {
+    assert!(C.contains(&format!("{line}\n")), "C has no line {line}");
+    C.replacen(line, other, 1).into_bytes()
+}
+
+fn broken() -> Loop {
+    Loop { u: -1, ..example::fresh() }
+}
+
+#[test]
+fn every_code_is_reached() {
+    let narrow = Settings { hi: 0, out: 0, ..example::settings() };
+    let wide = Settings { hi: 1_000_001, ..example::settings() };
+    let near_the_end = Loop { last: u32::MAX - 1, last_command: Some(Hold), ..example::fresh() };
+    let codes = [
+        delivered(&[], 1, Hold),
+        delivered(&[Hold, Hold], 1, Hold),
+        delivered(&[Hold], 1, Automatic),
+        delivered(&[Hold], 3, Hold),
+        delivered(&[], 1, Sample(1_000_001)),
+        delivered(&[], 1, Put(1_001)),
+        delivered(&[Automatic], 2, Put(50)),
+        delivered(&[], 1, aim(1_000_001, 1)),
+        delivered(&[], 1, aim(0, 2_000_001)),
+        delivered(&[], 1, Set(4)),
+        deliver(&mut broken(), 1, Hold).code,
+        Loop::make(&wide).0,
+        replay(&mut example::fresh(), 1, &[480], &mut []).code,
+        replay(&mut near_the_end.clone(), u32::MAX, &[480; 2], &mut [0; 2]).code,
+        text::read(b"").code,
+        text::read(&c_with("action=0", "action=2")).code,
+        Loop::make(&narrow).0,
+        text::read(format!("{C}\n").as_bytes()).code,
+        text::write(&example::settings(), &mut []).code,
+    ];
+    assert_eq!(codes.to_vec(), (0..=18).collect::<Vec<i32>>());
+}
+
+#[test]
+fn each_refusal_has_the_number_of_the_table() {
+    use Refusal::*;
+    let table = [
+        OldNumber,
+        ReusedNumber,
+        NumberAhead,
+        Temperature,
+        PutOutside,
+        PutWhileAutomatic,
+        Target,
+        Rate,
+        NoSuchSet,
+        BrokenRecord,
+        SettingOutside,
+        OutputsShort,
+        NumbersUsedUp,
+        LineForm,
+        LineValue,
+        Limits,
+        BytesAfter,
+        BufferShort,
+    ];
+    for (number, refusal) in (1..).zip(table) {
+        assert_eq!(refusal.code(), number);
+        assert_eq!(code(Err(refusal)), number);
+    }
+    assert_eq!(code(Ok(())), 0);
+}
+
+/// "10; then 1, 2, 3; then content, with 6 before 5 and 7 before 8"
+#[test]
+fn deliveries_are_refused_in_order() {
+    let bad = Sample(i32::MAX);
+    assert_eq!(deliver(&mut broken(), 0, bad).code, 10);
+    assert_eq!(delivered(&[Hold], 0, bad), 1);
+    assert_eq!(delivered(&[Hold, Hold], 1, bad), 1);
+    assert_eq!(delivered(&[Hold], 1, bad), 2);
+    assert_eq!(delivered(&[Hold], 3, bad), 3);
+    assert_eq!(delivered(&[Hold], 2, bad), 4);
+    assert_eq!(delivered(&[Automatic], 2, Put(1_001)), 6);
+    assert_eq!(delivered(&[Automatic, Hold], 3, Put(1_001)), 5);
+    assert_eq!(delivered(&[], 1, aim(1_000_001, 0)), 7);
+    assert_eq!(delivered(&[], 1, aim(1_000_000, 0)), 8);
+}
+
+/// "Making a loop from settings tests 11, then 16."
+#[test]
+fn making_is_refused_in_order() {
+    let good = example::settings();
+    let make = |settings: Settings| {
+        let (code, record) = Loop::make(&settings);
+        assert!(code == 0 || record == Loop::blank());
+        code
+    };
+    let both = Settings { lo: 1_000, rate: 0, ..good };
+    assert_eq!(make(both), 11);
+    assert_eq!(make(Settings { rate: 1, ..both }), 16);
+    assert_eq!(make(Settings { out: -1, ..good }), 16);
+    assert_eq!(make(Settings { out: 1_001, ..good }), 16);
+    assert_eq!(make(Settings { out: 1_000_001, ..good }), 11);
+    assert_eq!(make(Settings { out: 0, ..good }), 0);
+    assert_eq!(make(Settings { out: 1_000, ..good }), 0);
+}
+
+/// "The writer tests 11, 16, 18"
+#[test]
+fn writing_is_refused_in_order() {
+    let good = example::settings();
+    let write = |settings: Settings, length: usize| {
+        let mut buffer = vec![7; length];
+        let writing = text::write(&settings, &mut buffer);
+        assert!(writing.code == 0 || buffer == vec![7; length]);
+        assert!(writing.code == 0 || writing.length == 0);
+        writing.code
+    };
+    let all = Settings { hi: -1, sp: i32::MIN, ..good };
+    assert_eq!(write(all, 0), 11);
+    assert_eq!(write(Settings { sp: 0, ..all }, 0), 16);
+    assert_eq!(write(good, 0), 18);
+    assert_eq!(write(good, C.len() - 1), 18);
+    assert_eq!(write(good, C.len()), 0);
+}
+
+/// "Lines count from 1 and are tested in order, 14 before 15 in each. [..] Then 17, then 16."
+#[test]
+fn reading_is_refused_in_order() {
+    let read = |text: &[u8]| {
+        let reading = text::read(text);
+        (reading.code, reading.line)
+    };
+    assert_eq!(read(b"action=2"), (14, 1), "its line feed is missing");
+    assert_eq!(read(b"action=2\n"), (15, 1));
+    assert_eq!(read(b"action=2\nx\n"), (15, 1), "an earlier line comes first");
+    assert_eq!(read(b"action=x\nlo=1000001\n"), (14, 1));
+    let limits = c_with("hi=1000", "hi=0");
+    assert_eq!(read(&limits), (16, 0));
+    let and_bytes = [&limits[..], b"x"].concat();
+    assert_eq!(read(&and_bytes), (17, 0), "17 before 16");
+    let and_value = String::from_utf8(and_bytes).unwrap();
+    let and_value = and_value.replace("kt3=0", "kt3=65537");
+    assert_eq!(read(and_value.as_bytes()), (15, 26), "15 before 17");
+}
+
+/// "Order: 10; first number 0 or at most last: 1; above last + 1: 3; 12; 13; then 4". One thing
+/// after the other is put right.
+#[test]
+fn replays_are_refused_in_order() {
+    let last = u32::MAX - 3;
+    let good = Loop { last, last_command: Some(Hold), ..example::fresh() };
+    let broken = Loop { pending: true, ..good };
+    let samples = [480, 480, 1_000_001, i32::MIN];
+    let run = |mut record: Loop, first: u32, samples: &[i32], places: usize| {
+        let before = record;
+        let mut outputs = vec![-7; places];
+        let replayed = replay(&mut record, first, samples, &mut outputs);
+        assert!(replayed.code == 0 || (record == before && outputs == vec![-7; places]));
+        (replayed.code, replayed.place, replayed.count)
+    };
+    assert_eq!(run(broken, 0, &samples, 3), (10, 0, 0));
+    assert_eq!(run(good, 0, &samples, 3), (1, 0, 0));
+    assert_eq!(run(good, 1, &samples, 3), (1, 0, 0));
+    assert_eq!(run(good, last, &samples, 3), (1, 0, 0));
+    assert_eq!(run(good, last + 2, &samples, 3), (3, 0, 0));
+    assert_eq!(run(good, last + 1, &samples, 3), (12, 0, 0));
+    assert_eq!(run(good, last + 1, &samples, 4), (13, 0, 0));
+    assert_eq!(run(good, last + 1, &samples[..3], 4), (4, 2, 0));
+    assert_eq!(run(good, last + 1, &samples[..2], 4), (0, 0, 2));
+    let done = Replayed { code: 0, place: 0, count: 3 };
+    let last_three = replay(&mut good.clone(), last + 1, &[480; 3], &mut [0; 3]);
+    assert_eq!(last_three, done, "as many samples as numbers left");
+}
+
+/// "A malformed sample line [..] is 14; else a sample past the last number is 13, and one out of
+/// range 4."
+#[test]
+fn sample_lines_are_refused_in_order() {
+    let ended = Loop { last: u32::MAX, last_command: Some(Hold), ..example::fresh() };
+    let serve = |record: Loop, file: &[u8]| oven::serve(&mut record.clone(), file);
+    assert_eq!(serve(ended, b"10000001\n"), "refused 14 1\n");
+    assert_eq!(serve(ended, b"480"), "refused 14 1\n");
+    assert_eq!(serve(ended, b"1000001\n"), "refused 13 1\n");
+    assert_eq!(serve(ended, b"480\n"), "refused 13 1\n");
+    assert_eq!(serve(example::fresh(), b"1000001\n"), "refused 4 1\n");
+}

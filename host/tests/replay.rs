@@ -1,0 +1,160 @@
+//! 01, "Replay".
+
+use host::delivery::{deliver, Answer};
+use host::example;
+use host::gen;
+use host::law::{Command, Loop};
+use host::replay::{replay, Replayed};
+use host::rng::{for_each_seed, Rng};
+
+fn done(count: usize) -> Replayed {
+    Replayed { code: 0, place: 0, count }
+}
+
+fn refused(code: i32, place: usize) -> Replayed {
+    Replayed { code, place, count: 0 }
+}
+
+/// Samples for a random record, at most as many as it has numbers left.
+fn samples_for(rng: &mut Rng, record: &Loop, most: usize) -> Vec<i32> {
+    let left = u64::from(u32::MAX - record.last).min(most as u64) as usize;
+    let count = rng.below(left + 1);
+    gen::samples(rng, &record.settings, count)
+}
+
+/// The log's samples 480, 480, 478 in automatic, replayed as one.
+#[test]
+fn the_example_of_01() {
+    let mut record = example::fresh();
+    deliver(&mut record, 1, Command::Automatic);
+    let mut outputs = [-7; 5];
+    let replayed = replay(&mut record, 2, &[480, 480, 478], &mut outputs);
+    assert_eq!(replayed, done(3));
+    assert_eq!(outputs, [100, 105, 113, -7, -7], "every later place keeps its number");
+    assert_eq!((record.u, record.integral), (113, 181 * Loop::F / 2));
+    assert_eq!((record.last, record.last_command), (4, Some(Command::Sample(478))));
+}
+
+/// "On success the record and outputs are those of delivering the n samples in order"
+#[test]
+fn a_replay_equals_single_deliveries() {
+    let mut kept = 0;
+    for_each_seed(2_000, |rng| {
+        let start = gen::record(rng);
+        let samples = samples_for(rng, &start, 60);
+        let spare = rng.below(4);
+        let mut one_by_one = start;
+        let mut expected = Vec::new();
+        for (number, &pv) in (u64::from(start.last) + 1..).zip(&samples) {
+            let answer = deliver(&mut one_by_one, number as u32, Command::Sample(pv));
+            assert_eq!(answer.code, 0);
+            expected.push(answer.output);
+        }
+        expected.extend(vec![-7; spare]);
+
+        let mut replayed = start;
+        let mut outputs = vec![-7; samples.len() + spare];
+        let first = start.last.wrapping_add(1);
+        let answer = replay(&mut replayed, first, &samples, &mut outputs);
+        if start.last == u32::MAX {
+            assert_eq!(answer, refused(1, 0), "after the last number every replay is 1");
+        } else {
+            assert_eq!(answer, done(samples.len()));
+        }
+        assert_eq!((replayed, outputs), (one_by_one, expected));
+        kept += samples.len();
+    });
+    assert!(kept > 10_000, "{kept} kept");
+}
+
+/// "A replay that kept at least one sample and is sent again whole is refused 1, also when n was
+/// 1."
+#[test]
+fn a_replay_sent_again_whole_is_refused_1() {
+    for_each_seed(1_000, |rng| {
+        let mut record = gen::record(rng);
+        let samples = samples_for(rng, &record, 3);
+        let first = record.last.wrapping_add(1);
+        let mut outputs = vec![-7; samples.len()];
+        if !samples.is_empty() {
+            assert_eq!(replay(&mut record, first, &samples, &mut outputs), done(samples.len()));
+            let (kept, written) = (record, outputs.clone());
+            assert_eq!(replay(&mut record, first, &samples, &mut outputs), refused(1, 0));
+            assert_eq!((record, outputs), (kept, written));
+        }
+    });
+    let mut record = example::fresh();
+    assert_eq!(replay(&mut record, 1, &[480], &mut [0]), done(1));
+    assert_eq!(replay(&mut record, 1, &[480], &mut [0]), refused(1, 0));
+    let repeat = deliver(&mut record, 1, Command::Sample(480));
+    let as_before = Answer { code: 0, output: 100, last: 1 };
+    assert_eq!(repeat, as_before, "its last sample alone is a repeat");
+}
+
+/// "No samples: done, nothing changes", though 10, 1 and 3 are tested still.
+#[test]
+fn no_samples_change_nothing() {
+    let mut record = example::fresh();
+    let before = record;
+    let mut outputs = [-7; 2];
+    assert_eq!(replay(&mut record, 1, &[], &mut outputs), done(0));
+    assert_eq!(replay(&mut record, 1, &[], &mut outputs), done(0), "and it may be sent again");
+    assert_eq!(replay(&mut record, 0, &[], &mut outputs), refused(1, 0));
+    assert_eq!(replay(&mut record, 2, &[], &mut outputs), refused(3, 0));
+    assert_eq!((record, outputs), (before, [-7; 2]));
+    assert_eq!(replay(&mut Loop::blank(), 1, &[], &mut outputs), refused(10, 0));
+}
+
+#[test]
+fn after_the_last_number_every_replay_is_1() {
+    let mut record =
+        Loop { last: u32::MAX, last_command: Some(Command::Sample(480)), ..example::fresh() };
+    for first in [0, 1, u32::MAX - 1, u32::MAX] {
+        for samples in [&[][..], &[480], &[i32::MAX]] {
+            assert_eq!(replay(&mut record, first, samples, &mut []), refused(1, 0));
+        }
+    }
+}
+
+/// "then 4, with the place of the first bad sample"
+#[test]
+fn the_first_bad_sample_is_told_and_nothing_kept() {
+    for_each_seed(1_000, |rng| {
+        let mut record = gen::record(rng);
+        record.last /= 2;
+        record.last_command = record.last_command.filter(|_| record.last > 0);
+        let before = record;
+        let count = 1 + rng.below(50);
+        let mut samples = gen::samples(rng, &record.settings, count);
+        let first_bad = rng.below(count);
+        let bad = [1_000_001, -1_000_001, i32::MIN, i32::MAX];
+        samples[first_bad] = rng.pick(&bad);
+        let later = first_bad + rng.below(count - first_bad);
+        samples[later] = rng.pick(&bad);
+        let mut outputs = vec![-7; count];
+        let answer = replay(&mut record, before.last + 1, &samples, &mut outputs);
+        assert_eq!(answer, refused(4, first_bad));
+        assert_eq!((record, outputs), (before, vec![-7; count]));
+    });
+}
+
+/// A day's replay goes through in one call and agrees with its two halves.
+#[test]
+fn a_long_replay_may_be_cut_anywhere() {
+    for_each_seed(5, |rng| {
+        let settings = gen::settings(rng);
+        let samples = gen::samples(rng, &settings, 50_000);
+        let (front, back) = samples.split_at(rng.below(samples.len()));
+        let (mut whole, mut cut) = (Loop::make(&settings).1, Loop::make(&settings).1);
+        for record in [&mut whole, &mut cut] {
+            deliver(record, 1, Command::Automatic);
+        }
+        let (mut all, mut parts) = (vec![0; 50_000], vec![0; 50_000]);
+        replay(&mut whole, 2, &samples, &mut all);
+        replay(&mut cut, 2, front, &mut parts);
+        let next = cut.last + 1;
+        replay(&mut cut, next, back, &mut parts[front.len()..]);
+        assert_eq!((whole, all), (cut, parts));
+        assert_eq!(whole.last, 50_001);
+    });
+}

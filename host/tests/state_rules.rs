@@ -1,0 +1,177 @@
+//! 01's state rules: each by itself, at its ends, and over unreached records.
+
+use host::delivery::{deliver, Answer};
+use host::example;
+use host::gen;
+use host::law::{obey, Command, Loop, Mode};
+use host::refusal::Refusal;
+use host::replay::{replay, Replayed};
+use host::rng::for_each_seed;
+
+/// A valid automatic record, primed, that remembers a command.
+fn valid() -> Loop {
+    Loop {
+        mode: Mode::Automatic,
+        primed: true,
+        y: 480 * Loop::F,
+        last: 7,
+        last_command: Some(Command::Sample(480)),
+        ..example::fresh()
+    }
+}
+
+fn with(change: fn(&mut Loop)) -> Loop {
+    let mut record = valid();
+    change(&mut record);
+    record
+}
+
+/// Records that break one rule each.
+fn broken() -> Vec<Loop> {
+    vec![
+        Loop::blank(),
+        with(|l| l.settings.action = 2),
+        with(|l| l.settings.action = -1),
+        with(|l| l.settings.lo = -1_000_001),
+        with(|l| l.settings.hi = 1_000_001),
+        with(|l| l.settings.hi = l.settings.lo),
+        with(|l| l.settings.out = -1),
+        with(|l| l.settings.out = 1_001),
+        with(|l| l.settings.sp = 1_000_001),
+        with(|l| l.settings.rate = 0),
+        with(|l| l.settings.sets[3].kp = -1),
+        with(|l| l.settings.sets[2].ki = 4_194_305),
+        with(|l| l.settings.sets[1].alpha = 0),
+        with(|l| l.settings.sets[3].kt = 65_537),
+        with(|l| l.w = 1_000_001),
+        with(|l| l.w = -1_000_001),
+        with(|l| l.target = 1_000_001),
+        with(|l| l.target = -1_000_001),
+        with(|l| l.rate = 0),
+        with(|l| l.rate = 2_000_001),
+        with(|l| l.set = -1),
+        with(|l| l.set = 4),
+        with(|l| l.u = -1),
+        with(|l| l.u = 1_001),
+        with(|l| l.integral = 16_842_752_000_001),
+        with(|l| l.integral = -16_842_752_000_001),
+        with(|l| l.integral = i64::MIN),
+        with(|l| l.y = 65_536_000_001),
+        with(|l| l.y = -65_536_000_001),
+        with(|l| l.y = i64::MIN),
+        with(|l| l.primed = false),
+        with(|l| {
+            l.mode = Mode::Manual;
+            l.pending = true;
+        }),
+        with(|l| l.last = 0),
+        with(|l| l.last_command = None),
+    ]
+}
+
+/// Records that are valid at the very end of a rule.
+fn at_the_ends() -> Vec<Loop> {
+    vec![
+        valid(),
+        with(|l| l.w = 1_000_000),
+        with(|l| l.w = -1_000_000),
+        with(|l| l.target = 1_000_000),
+        with(|l| l.target = -1_000_000),
+        with(|l| l.rate = 1),
+        with(|l| l.rate = 2_000_000),
+        with(|l| l.set = 3),
+        with(|l| l.u = 0),
+        with(|l| l.u = 1_000),
+        with(|l| l.integral = 16_842_752_000_000),
+        with(|l| l.integral = -16_842_752_000_000),
+        with(|l| l.y = 65_536_000_000),
+        with(|l| l.y = -65_536_000_000),
+        with(|l| {
+            l.primed = false;
+            l.y = 0;
+        }),
+        with(|l| l.pending = true),
+        with(|l| {
+            l.last = 0;
+            l.last_command = None;
+        }),
+        with(|l| l.last = u32::MAX),
+        with(|l| l.last_command = Some(Command::Sample(i32::MIN))),
+        with(|l| l.last_command = Some(Command::Set(77))),
+    ]
+}
+
+#[test]
+fn each_rule_is_tested_and_nothing_more() {
+    for record in at_the_ends() {
+        assert_eq!(record.check(), Ok(()), "{record:?}");
+    }
+    for record in broken() {
+        assert_eq!(record.check(), Err(Refusal::BrokenRecord), "{record:?}");
+    }
+}
+
+/// "A record breaking the state rules gets code 10, output 0 and number 0", before all else.
+#[test]
+fn a_broken_record_gets_10_and_stays() {
+    let commands = [Command::Sample(i32::MAX), Command::Sample(480), Command::Hold];
+    for record in broken() {
+        for (number, command) in [0, 1, 7, 8, 9].into_iter().zip(commands.iter().cycle()) {
+            let mut tried = record;
+            let answer = deliver(&mut tried, number, *command);
+            assert_eq!(answer, Answer { code: 10, output: 0, last: 0 });
+            assert_eq!(tried, record);
+            assert_eq!(obey(&mut tried, *command), Err(Refusal::BrokenRecord));
+            assert_eq!(tried, record);
+            let mut outputs = [-7; 1];
+            let replayed = replay(&mut tried, number, &[480, i32::MAX], &mut outputs);
+            assert_eq!(replayed, Replayed { code: 10, place: 0, count: 0 });
+            assert_eq!((tried, outputs), (record, [-7]));
+        }
+    }
+}
+
+/// "some records that keep them are never reached, and are served all the same"; power stays
+/// within lo..hi and the integral within B.
+#[test]
+fn unreached_records_are_served_and_stay_valid() {
+    let mut kept = 0;
+    for_each_seed(4_000, |rng| {
+        let mut record = gen::record(rng);
+        assert_eq!(record.check(), Ok(()), "{record:?}");
+        for _ in 0..30 {
+            let before = record;
+            let next = gen::delivery(rng, &record);
+            let answer = deliver(&mut record, next.number, next.command);
+            assert_eq!(record.check(), Ok(()), "{next:?} on {before:?}");
+            assert_ne!(answer.code, 10);
+            assert_eq!((answer.output, answer.last), (record.u, record.last));
+            assert!(record.settings.lo <= record.u && record.u <= record.settings.hi);
+            assert!(-Loop::B <= record.integral && record.integral <= Loop::B);
+            if record.last == before.last {
+                assert_eq!(record, before, "{next:?}");
+            } else {
+                kept += 1;
+                assert_eq!((answer.code, record.last), (0, next.number));
+                assert_eq!(record.last_command, Some(next.command));
+            }
+        }
+    });
+    assert!(kept > 30_000, "{kept} kept");
+}
+
+/// "Every loop the software makes keeps them".
+#[test]
+fn made_loops_keep_the_rules_and_the_blank_does_not() {
+    let mut codes = [0; 17];
+    for_each_seed(3_000, |rng| {
+        let settings = gen::doubtful_settings(rng);
+        let (code, record) = Loop::make(&settings);
+        codes[code as usize] += 1;
+        assert_eq!(record.check().is_ok(), code == 0);
+        if code != 0 {
+            assert_eq!(record, Loop::blank());
+        }
+    });
+    assert!(codes[0] > 500 && codes[11] > 500 && codes[16] > 50, "{codes:?}");
+}
