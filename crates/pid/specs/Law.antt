@@ -2,7 +2,7 @@
 use Prim.Native.Nat.{ℕ}
 use mathlib.Core.Bool.{Bool, true, false, cond, _||_}
 use lib.Dec.{eqb}
-use lib.IntN.{ℤ, pos, negsuc, _*ℤ_}
+use lib.IntN.{ℤ, pos, negℤ, _*ℤ_}
 use Rattle.whole.specs.Numbers.{plus, eqZ, inside}
 use Rattle.pid.specs.declared.record.Command.{Command}
 use Rattle.pid.specs.declared.record.Command.the-variants.{Sample, Hold, Put, Automatic, Target, Set}
@@ -72,7 +72,7 @@ withTarget l target rate u = record {
 
 -- "0 heats (s = 1), 1 cools (s = -1)"
 abbrev pub signOf : ℤ → ℤ
-signOf action = cond (eqZ action (pos 0)) (pos 1) (negsuc 0)
+signOf action = cond (eqZ action (pos 0)) (pos 1) (negℤ (pos 1))
 
 abbrev pub fixedOf : Loop → Fixed
 fixedOf l = record {

@@ -2,7 +2,7 @@
 use Prim.Native.Nat.{ℕ}
 use mathlib.Core.Bool.{Bool, false, not, cond, _&&_, _||_}
 use lib.Dec.{eqb, ltb}
-use lib.IntN.{ℤ, pos, negsuc}
+use lib.IntN.{ℤ, pos, negℤ}
 use Rattle.whole.specs.Numbers.{eqZ, inside}
 use Rattle.pid.specs.declared.settings.Settings.{Settings}
 use Rattle.pid.specs.declared.record.Last.{Last}
@@ -59,7 +59,7 @@ madeOf s =
 
 -- a number within ±1,000,000
 abbrev pub inReach : ℤ → Bool
-inReach z = inside (negsuc 999999) (pos reach) z
+inReach z = inside (negℤ (pos reach)) (pos reach) z
 
 -- a rate from 1 to 2,000,000
 abbrev pub inRates : ℤ → Bool
@@ -73,11 +73,11 @@ placesOk l =
 
 -- "|I| at most B"
 abbrev pub inB : ℤ → Bool
-inB z = inside (negsuc 16842751999999) (pos B) z
+inB z = inside (negℤ (pos B)) (pos B) z
 
 -- "|y| at most 65,536,000,000"
 abbrev pub inFine : ℤ → Bool
-inFine z = inside (negsuc 65535999999) (pos fineReach) z
+inFine z = inside (negℤ (pos fineReach)) (pos fineReach) z
 
 -- "|I| at most B; |y| at most 65,536,000,000, and y = 0 while not primed"
 abbrev pub fineOk : Loop → Bool

@@ -1,7 +1,7 @@
 -- 01, "The law": a sample, step by step. Fixed holds what stays (the sign s, lo × F, hi × F, target, rate, mode, the gains
 -- in force), Moving what a sample moves (w, u, I, y, primed, pending), Sensed what its steps 1 to 3 find (w, y, e, P, D).
 use mathlib.Core.Bool.{Bool, true, false, not, cond, _&&_}
-use lib.IntN.{ℤ, pos, negsuc, _+ℤ_, _-ℤ_, _*ℤ_}
+use lib.IntN.{ℤ, pos, negℤ, _+ℤ_, _-ℤ_, _*ℤ_}
 use lib.Signed.{ltZ}
 use Rattle.pid.specs.declared.sample.Fixed.{Fixed}
 use Rattle.pid.specs.declared.sample.Moving.{Moving}
@@ -82,7 +82,7 @@ clamped i g top bottom =
 
 -- "With kt > 0: I + g + round(kt × (U - v) / F), then limited to ±B." excess is U - v
 unfoldable pub backCalculated : ℤ → ℤ → ℤ → ℤ → ℤ
-backCalculated i g kt excess = limited (i +ℤ g +ℤ rounded (kt *ℤ excess)) (negsuc 16842751999999) (pos B)
+backCalculated i g kt excess = limited (i +ℤ g +ℤ rounded (kt *ℤ excess)) (negℤ (pos B)) (pos B)
 
 unfoldable pub integrated : Fixed → Moving → Sensed → ℤ → ℤ
 integrated f m z excess =

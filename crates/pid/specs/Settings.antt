@@ -3,7 +3,7 @@ use Prim.Native.Nat.{ℕ, zero, suc, _+_}
 use mathlib.Core.Bool.{Bool, true, false, cond, _&&_}
 use mathlib.Core.List.{List, [], _∷_}
 use lib.ListN.{length, getD, replicate}
-use lib.IntN.{ℤ, pos, negsuc}
+use lib.IntN.{ℤ, pos, negℤ}
 use lib.Signed.{ltZ}
 use Rattle.whole.specs.Numbers.{inside}
 use Rattle.pid.specs.declared.settings.Row.{Row}
@@ -43,10 +43,10 @@ setRows (d ∷ ds) =
 unfoldable pub rows : List Row
 rows =
     row (97 ∷ 99 ∷ 116 ∷ 105 ∷ 111 ∷ 110 ∷ 61 ∷ []) 7 (pos 0) (pos 1)
-    ∷ row (108 ∷ 111 ∷ 61 ∷ 0 ∷ 0 ∷ 0 ∷ 0 ∷ []) 3 (negsuc 999999) (pos reach)
-    ∷ row (104 ∷ 105 ∷ 61 ∷ 0 ∷ 0 ∷ 0 ∷ 0 ∷ []) 3 (negsuc 999999) (pos reach)
-    ∷ row (111 ∷ 117 ∷ 116 ∷ 61 ∷ 0 ∷ 0 ∷ 0 ∷ []) 4 (negsuc 999999) (pos reach)
-    ∷ row (115 ∷ 112 ∷ 61 ∷ 0 ∷ 0 ∷ 0 ∷ 0 ∷ []) 3 (negsuc 999999) (pos reach)
+    ∷ row (108 ∷ 111 ∷ 61 ∷ 0 ∷ 0 ∷ 0 ∷ 0 ∷ []) 3 (negℤ (pos reach)) (pos reach)
+    ∷ row (104 ∷ 105 ∷ 61 ∷ 0 ∷ 0 ∷ 0 ∷ 0 ∷ []) 3 (negℤ (pos reach)) (pos reach)
+    ∷ row (111 ∷ 117 ∷ 116 ∷ 61 ∷ 0 ∷ 0 ∷ 0 ∷ []) 4 (negℤ (pos reach)) (pos reach)
+    ∷ row (115 ∷ 112 ∷ 61 ∷ 0 ∷ 0 ∷ 0 ∷ 0 ∷ []) 3 (negℤ (pos reach)) (pos reach)
     ∷ row (114 ∷ 97 ∷ 116 ∷ 101 ∷ 61 ∷ 0 ∷ 0 ∷ []) 5 (pos 1) (pos fastest)
     ∷ setRows setDigits
 
