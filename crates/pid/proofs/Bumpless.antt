@@ -12,7 +12,8 @@ use Rattle.pid.specs.declared.record.Command.{Command}
 use Rattle.pid.specs.declared.record.Command.the-variants.{Sample, Hold, Put, Automatic, Target, Set}
 use Rattle.pid.specs.Sample.{actedOf}
 use Rattle.pid.specs.Law.{sampleOf, stepOf}
-use Rattle.pid.specs.Run.{after, switches, between}
+use Rattle.pid.specs.Walk.{after}
+use Rattle.pid.specs.Run.{obeyed, switches, between}
 
 unfoldable pub quiet : Loop → Bool
 quiet l = not (l .automatic) || l .pending
@@ -44,7 +45,7 @@ switch-still l Automatic e = automatic-still l
 switch-still l (Target t r) e = never e
 switch-still l (Set k) e = set-still l k
 
-pub between-still : (l : Loop) (cs : List Command) → between cs ≡ true → after l cs .u ≡ l .u
+pub between-still : (l : Loop) (cs : List Command) → between cs ≡ true → obeyed l cs .u ≡ l .u
 unfolding between after stepOf
 between-still l [] e = refl
 between-still l (Sample pv ∷ cs) e = never e
@@ -78,7 +79,7 @@ switch-quiet l Automatic e = rw (not-true (l .automatic) e)
 switch-quiet l (Target t r) e = never e
 switch-quiet l (Set k) e = rw (not-true (eqb (l .set) (plus k)) e) (pending-quiet (l .automatic) (l .pending))
 
-pub between-quiet : (l : Loop) (cs : List Command) → quiet l ≡ true → between cs ≡ true → quiet (after l cs) ≡ true
+pub between-quiet : (l : Loop) (cs : List Command) → quiet l ≡ true → between cs ≡ true → quiet (obeyed l cs) ≡ true
 unfolding quiet between after stepOf
 between-quiet l [] q e = q
 between-quiet l (Sample pv ∷ cs) q e = never e

@@ -6,7 +6,14 @@ pub mod Arithmetic
 pub mod Samples
 pub mod Sound
 pub mod Kept
-mod Bumpless
-mod Shares
-mod Ramp
+pub mod Bumpless
+pub mod Shares
+pub mod Ramp
+pub mod Verdicts
+pub mod Walked
+pub mod Remembered
+pub mod Served
+pub mod Started
+pub mod Same
+pub mod Summed
 pub mod promises

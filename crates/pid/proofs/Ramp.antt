@@ -18,7 +18,8 @@ use Rattle.pid.specs.declared.record.Command.the-variants.{Sample, Hold,
 use Rattle.pid.specs.Record.{valid}
 use Rattle.pid.specs.Sample.{lesser, ramped, sensedOf, actedOf}
 use Rattle.pid.specs.Law.{sampleOf, stepOf}
-use Rattle.pid.specs.Run.{after, noTarget, samples, distance, ceiling, samplesToTarget}
+use Rattle.pid.specs.Walk.{after}
+use Rattle.pid.specs.Run.{obeyed, noTarget, samples, distance, ceiling, samplesToTarget}
 use Rattle.pid.proofs.Sound.{holds-of}
 
 -- one sample
@@ -80,12 +81,12 @@ from-sample m l k n t r d f = record {
   target = f .target ∙ t;
 }
 
-pub run-left : (l : Loop) (cs : List Command) → pos 0 ≤ℤ l .rate → noTarget cs ≡ true → Left l (after l cs) (samples cs)
+pub run-left : (l : Loop) (cs : List Command) → pos 0 ≤ℤ l .rate → noTarget cs ≡ true → Left l (obeyed l cs) (samples cs)
 unfolding noTarget samples after stepOf sampleOf sensedOf actedOf
 run-left l [] h e = record { left = omega arith; target = refl }
 run-left l (Sample pv ∷ cs) h e =
     let m = stepOf l (Sample pv) in
-    from-sample m l (after m cs) (samples cs) refl refl (ramped-left (l .w) (l .target) (l .rate) h) (run-left m cs h e)
+    from-sample m l (obeyed m cs) (samples cs) refl refl (ramped-left (l .w) (l .target) (l .rate) h) (run-left m cs h e)
 run-left l (Hold ∷ cs) h e = from-alike (stepOf l Hold) l _ (samples cs) (record { w = refl; target = refl; rate = refl }) (run-left (stepOf l Hold) cs h e)
 run-left l (Put x ∷ cs) h e =
     from-alike (stepOf l (Put x)) l _ (samples cs) (record { w = refl; target = refl; rate = refl }) (run-left (stepOf l (Put x)) cs h e)
@@ -128,18 +129,18 @@ short d r n h k =
     omega (arith, div-add-mod' (d + (r - 1)) r, mul-le-mul-right r k′)
 
 pub ceiling-reaches : (l : Loop) (cs : List Command) → valid l ≡ true → noTarget cs ≡ true → samplesToTarget l ≤ samples cs →
-    after l cs .w ≡ l .target
+    obeyed l cs .w ≡ l .target
 ceiling-reaches l cs v e n =
     let r = rates-up l v in
     let f = run-left l cs (r .0) e in
     let d = enough (distance l) (plus (l .rate)) (samples cs) (r .1) n in
-    same-place (after l cs .target) (after l cs .w) (omega (arith, f .left)) ∙ f .target
+    same-place (obeyed l cs .target) (obeyed l cs .w) (omega (arith, f .left)) ∙ f .target
 
 pub ceiling-first : (l : Loop) (cs : List Command) → valid l ≡ true → noTarget cs ≡ true → samples cs < samplesToTarget l →
-    after l cs .w ≡ l .target → ⊥
+    obeyed l cs .w ≡ l .target → ⊥
 ceiling-first l cs v e n at-target =
     let r = rates-up l v in
     let f = run-left l cs (r .0) e in
     let d = short (distance l) (plus (l .rate)) (samples cs) (r .1) n in
-    let z = no-distance (after l cs .target) (after l cs .w) (at-target ∙ sym (f .target)) in
+    let z = no-distance (obeyed l cs .target) (obeyed l cs .w) (at-target ∙ sym (f .target)) in
     omega (arith, f .left, z)

@@ -22,7 +22,8 @@ use Rattle.pid.specs.Record.{inReach, valid}
 use Rattle.pid.specs.Bounds.{FixedOk, MovingOk, SensedOk}
 use Rattle.pid.specs.Sample.{lesser, greater, limited, shareOf, vOf, limitedV, clamped, backCalculated, integrated, newI, actedOf}
 use Rattle.pid.specs.Law.{fixedOf, movingOf, sampleOf, refusalOf, stepOf}
-use Rattle.pid.specs.Run.{after, accepted, sensedAt, shareAt, withinLimits, ordinaryWithin, unbroken, shares}
+use Rattle.pid.specs.Walk.{after}
+use Rattle.pid.specs.Run.{obeyed, accepted, sensedAt, shareAt, withinLimits, ordinaryWithin, unbroken, shares}
 use Rattle.pid.proofs.Arithmetic.{limited-between}
 use Rattle.pid.proofs.Samples.{sensed-ok}
 use Rattle.pid.proofs.Sound.{holds-of, fixed-ok, moving-ok, in-range}
@@ -125,7 +126,7 @@ unfolding stepOf
 set-integral l k = chosen (λ (x : Loop). x .integral ≡ l .integral) (eqb (l .set) (plus k)) (λ _. refl) (λ _. refl)
 
 abbrev Runs : Loop → List Command → Type 0
-Runs l cs = after l cs .integral ≡ l .integral +ℤ shares l cs
+Runs l cs = obeyed l cs .integral ≡ l .integral +ℤ shares l cs
 
 -- the head of an accepted list
 head : (l : Loop) (c : Command) (cs : List Command) → valid l ≡ true → accepted l (c ∷ cs) ≡ true →
@@ -137,7 +138,7 @@ head l c cs v e =
     (r, step-valid l c v r, b .1)
 
 -- a command that leaves the integral
-moved : (m l : Loop) (cs : List Command) → m .integral ≡ l .integral → Runs m cs → after m cs .integral ≡ l .integral +ℤ shares m cs
+moved : (m l : Loop) (cs : List Command) → m .integral ≡ l .integral → Runs m cs → obeyed m cs .integral ≡ l .integral +ℤ shares m cs
 moved m l cs e r = rw (← e) r
 
 pub run-shares : (l : Loop) (cs : List Command) → valid l ≡ true → accepted l cs ≡ true → unbroken l cs ≡ true → Runs l cs

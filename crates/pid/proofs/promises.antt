@@ -1,4 +1,7 @@
--- The theorems: one file a demand, and 01's own numbers.
+-- What the crate promises: one file for each demand, and 01's own numbers.
 pub mod Demand1
 pub mod Demand2
+pub mod Delivery
+pub mod Demand3
 pub mod Examples
+pub mod Bench

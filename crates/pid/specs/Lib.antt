@@ -4,4 +4,7 @@ pub mod Record
 pub mod Sample
 pub mod Bounds
 pub mod Law
+pub mod Delivery
+pub mod Walk
 pub mod Run
+pub mod Bench

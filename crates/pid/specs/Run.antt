@@ -11,11 +11,11 @@ use Rattle.pid.specs.declared.record.Command.the-variants.{Sample, Hold,
 use Rattle.pid.specs.declared.sample.Sensed.{Sensed}
 use Rattle.pid.specs.Sample.{sensedOf, shareOf, vOf, limitedV}
 use Rattle.pid.specs.Law.{fixedOf, movingOf, refusalOf, stepOf}
+use Rattle.pid.specs.Walk.{after}
 
 -- the law's state after some commands, each given once
-unfoldable pub after : Loop → List Command → Loop
-after l [] = l
-after l (c ∷ cs) = after (stepOf l c) cs
+abbrev pub obeyed : Loop → List Command → Loop
+obeyed l cs = after stepOf l cs
 
 -- the law accepts each of them in the state that it meets
 unfoldable pub accepted : Loop → List Command → Bool

@@ -89,7 +89,7 @@ impl Loop {
     }
 
     // The code of what is wrong with a command's content, and 0 where the law accepts it.
-    fn refusal(self, c: Command) -> u8
+    pub(crate) fn refusal(self, c: Command) -> u8
         ensures { λ r. ⌜ r ≡ refusalOf self c ⌝ }
     {
         match c {
@@ -111,7 +111,7 @@ impl Loop {
         all[k]
     }
 
-    fn fixed(self) -> Fixed
+    pub(crate) fn fixed(self) -> Fixed
         requires { ⌜ valid self ≡ true ⌝ }
         ensures { λ r. ⌜ r ≡ fixedOf self ⌝ }
     {
@@ -131,7 +131,7 @@ impl Loop {
         }
     }
 
-    fn moving(self) -> Moving
+    pub(crate) fn moving(self) -> Moving
         ensures { λ r. ⌜ r ≡ movingOf self ⌝ }
     {
         Moving {
@@ -144,7 +144,7 @@ impl Loop {
         }
     }
 
-    fn with_moving(mut self, m: Moving) -> Loop
+    pub(crate) fn with_moving(mut self, m: Moving) -> Loop
         requires { ⌜ Within reach (m .w) × Within reach (m .u) ⌝ }
         ensures { λ r. ⌜ r ≡ withMoving self m ⌝ }
     {
@@ -216,7 +216,7 @@ impl Loop {
         }
     }
 
-    fn step(self, c: Command) -> Loop
+    pub(crate) fn step(self, c: Command) -> Loop
         requires { ⌜ (valid self ≡ true) × (refusalOf self c ≡ 0) ⌝ }
         ensures { λ r. ⌜ r ≡ stepOf self c ⌝ }
     {

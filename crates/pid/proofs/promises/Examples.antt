@@ -1,10 +1,20 @@
 -- 01's own numbers, computed by the definitions. Fine amounts are written as multiples of F = 65,536, or of F / 2.
 use mathlib.Core.Path.{_≡_, refl}
 use mathlib.Core.Bool.{true, false}
+use mathlib.Core.List.{List, [], _∷_}
 use lib.IntN.{ℤ, pos, negsuc, _*ℤ_}
+use Rattle.pid.specs.declared.record.Command.{Command}
+use Rattle.pid.specs.declared.record.Command.the-variants.{Sample, Hold, Automatic, Target, Set}
+use Rattle.pid.specs.declared.record.Loop.{Loop}
 use Rattle.pid.specs.declared.sample.Fixed.{Fixed}
 use Rattle.pid.specs.declared.sample.Moving.{Moving}
 use Rattle.pid.specs.Units.{F, rounded}
+use Rattle.pid.specs.Settings.{rows, inTable}
+use Rattle.pid.specs.Record.{freshOf, valid}
+use Rattle.pid.specs.Law.{sampleOf, stepOf, refusalOf}
+use Rattle.pid.specs.Walk.{after}
+use Rattle.pid.specs.Run.{obeyed, accepted, switches, between, unbroken, shares, samplesToTarget}
+use Rattle.pid.specs.Bench.{settingsC, fine}
 use Rattle.pid.specs.Sample.{lesser, greater, limited, ramped, filtered, derivative, sensedOf, clamped, backCalculated, integrated, actedOf, movedOf}
 
 -- "fine 32,767 gives 0, 32,768 gives 1, -32,768 gives 0, -32,769 gives -1"
@@ -62,3 +72,30 @@ limit-950 = refl
 pub limit-back : movedOf (atLimit (pos 32768)) (before (pos 1800)) (pos 400) ≡ before (pos 1825)
 unfolding rounded lesser greater limited ramped filtered derivative sensedOf clamped backCalculated integrated actedOf
 limit-back = refl
+
+-- ---- what the theorems of demand 2 assume can be met
+
+-- settings C, primed, automatic, transferred
+abbrev warm : Loop
+warm = obeyed (freshOf settingsC) (Sample (pos 480) ∷ Automatic ∷ Sample (pos 480) ∷ [])
+
+-- two ordinary samples within limits, with a set in force between them, move the integral by 5 and 5.5
+abbrev two : List Command
+two = Sample (pos 480) ∷ Set (pos 0) ∷ Sample (pos 478) ∷ []
+
+pub run-met : (valid warm ≡ true) × (accepted warm two ≡ true) × (unbroken warm two ≡ true) × (shares warm two ≡ fine 10 50)
+unfolding rounded rows inTable valid lesser greater limited ramped filtered derivative sensedOf clamped backCalculated integrated actedOf sampleOf stepOf refusalOf after accepted unbroken shares
+run-met = (refl, refl, refl, refl)
+
+-- from 500 to 800 by 50 takes six samples
+abbrev aimed : Loop
+aimed = stepOf warm (Target (pos 800) (pos 50))
+
+pub ramp-met : (valid aimed ≡ true) × (samplesToTarget aimed ≡ 6)
+unfolding rounded rows inTable valid lesser greater limited ramped filtered derivative sensedOf clamped backCalculated integrated actedOf sampleOf stepOf refusalOf after
+ramp-met = (refl, refl)
+
+-- a hold, an automatic that leaves manual, and another set are switches; a target may stand before the first sample
+pub switch-met : (switches warm Hold ≡ true) × (switches (freshOf settingsC) Automatic ≡ true) × (switches warm (Set (pos 1)) ≡ true) × (between (Target (pos 800) (pos 50) ∷ []) ≡ true)
+unfolding rounded rows inTable valid lesser greater limited ramped filtered derivative sensedOf clamped backCalculated integrated actedOf sampleOf stepOf refusalOf after switches between
+switch-met = (refl, refl, refl, refl)
