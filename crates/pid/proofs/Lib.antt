@@ -16,4 +16,8 @@ pub mod Served
 pub mod Started
 pub mod Same
 pub mod Summed
+pub mod Turns
+pub mod Replays
+pub mod ReplayOrder
+pub mod Sent
 pub mod promises

@@ -16,7 +16,7 @@ use Rattle.pid.specs.declared.delivery.Delivered.{Delivered}
 use Rattle.pid.specs.Record.{lastOk, valid}
 use Rattle.pid.specs.Law.{refusalOf, stepOf}
 use Rattle.pid.specs.Delivery.{isLast, Verdict, refused, repeated, accepted, verdict, verdictOf, remembering, answerOf, servedOf, brokenOf, deliveredOf}
-use Rattle.pid.specs.Walk.{answerIn, after, told, Latest, none, latest, Walk, keeps, keeping, onward, answerTo, kept, plain, left, answered, lastOf, recalled, standing}
+use Rattle.pid.specs.Walk.{answerIn, after, each, Latest, none, latest, Walk, keeps, keeping, onward, answerTo, kept, plain, handedBack, answered, lastOf, recalled, standing}
 use Rattle.pid.proofs.Sound.{Holds, holds-of, last-of}
 use Rattle.pid.proofs.Kept.{step-holds}
 use Rattle.pid.proofs.Same.{same-self}
@@ -60,30 +60,30 @@ module _ (w : Walk plain) (d : Sent plain) (h : Holds (w .state)) (a : Agrees pl
   answered-by accepted =
       ap (λ (l : Loop). record { code = 0; output = l .u; number = d .number }) (step-remembering (w .state) (w .count) (memory (w .latest)) (d .command))
 
-  left-by : (v : Verdict) → servedOf (standsAt w) (d .number) (d .command) v .state ≡ standsAt (walkBy plain w d v)
+  handed-by : (v : Verdict) → servedOf (standsAt w) (d .number) (d .command) v .state ≡ standsAt (walkBy plain w d v)
   unfolding servedOf memory
-  left-by (refused code) = refl
-  left-by repeated = refl
-  left-by accepted =
+  handed-by (refused code) = refl
+  handed-by repeated = refl
+  handed-by accepted =
       ap (λ (l : Loop). remembering l (d .number) (Kept (d .command))) (step-remembering (w .state) (w .count) (memory (w .latest)) (d .command))
 
   pub answers-at : answered (standsAt w) d ≡ answerBy plain w d (judged plain w d)
   answers-at = ap answerIn delivered-at ∙ answered-by (judged plain w d)
 
-  pub leaves-at : left (standsAt w) d ≡ standsAt (walkBy plain w d (judged plain w d))
-  leaves-at = ap (λ (r : Delivered). r .state) delivered-at ∙ left-by (judged plain w d)
+  pub hands-at : handedBack (standsAt w) d ≡ standsAt (walkBy plain w d (judged plain w d))
+  hands-at = ap (λ (r : Delivered). r .state) delivered-at ∙ handed-by (judged plain w d)
 
 -- the loop is an engine of the plain law
 abbrev pub loop : Engine plain
 loop = record {
   Record = Loop;
-  left = left;
+  handedBack = handedBack;
   answered = answered;
   at = standsAt;
   Rules = Holds;
   keep-rules = step-holds;
   answers = answers-at;
-  leaves = leaves-at;
+  hands = hands-at;
 }
 
 -- ---- any delivery, by the verdict on it
@@ -178,28 +178,28 @@ walked-memory w (d ∷ ds) =
     walked-memory (onward plain w d) ds ∙ memory-past w d (kept plain (onward plain w d) ds) (keeps plain w d)
 
 -- what is left after a list, said of the kept commands
-pub left-after : (w : Walk plain) (ds : List (Sent plain)) → Holds (w .state) → Agrees plain w →
-    after left (standsAt w) ds
+pub end-after : (w : Walk plain) (ds : List (Sent plain)) → Holds (w .state) → Agrees plain w →
+    after handedBack (standsAt w) ds
     ≡ remembering (after stepOf (w .state) (kept plain w ds)) (w .count + length (kept plain w ds)) (lastOf (memory (w .latest)) (kept plain w ds))
-left-after w ds h a =
+end-after w ds h a =
     ends plain loop w ds h a
     ∙ remembering-is (walked-state plain w ds) (walked-count plain w ds) (walked-memory w ds)
   where
     remembering-is : {l l′ : Loop} {n n′ : ℕ} {m m′ : Last} → l ≡ l′ → n ≡ n′ → m ≡ m′ → remembering l n m ≡ remembering l′ n′ m′
     remembering-is p q r = rw (p, q, r)
 
-pub left-from : (l : Loop) (ds : List (Sent plain)) → valid l ≡ true →
-    after left l ds
+pub end-from : (l : Loop) (ds : List (Sent plain)) → valid l ≡ true →
+    after handedBack l ds
     ≡ remembering (after stepOf l (kept plain (standing l) ds)) (l .number + length (kept plain (standing l) ds)) (lastOf (l .last) (kept plain (standing l) ds))
-left-from l ds v = rw (recalled-is l v (l .last)) at (left-after (standing l) ds (holds-of l v) (standing-agrees l v))
+end-from l ds v = rw (recalled-is l v (l .last)) at (end-after (standing l) ds (holds-of l v) (standing-agrees l v))
 
 pub answers-from : (l : Loop) (ds : List (Sent plain)) → valid l ≡ true →
-    told left answered l ds ≡ told (onward plain) (answerTo plain) (standing l) ds
+    each handedBack answered l ds ≡ each (onward plain) (answerTo plain) (standing l) ds
 answers-from l ds v =
-    ap (λ (x : Loop). told left answered x ds) (sym (stands l v))
+    ap (λ (x : Loop). each handedBack answered x ds) (sym (stands l v))
     ∙ all-answers plain loop (standing l) ds (holds-of l v) (standing-agrees l v)
 
-pub all-valid : (l : Loop) (ds : List (Sent plain)) → valid l ≡ true → valid (after left l ds) ≡ true
+pub all-valid : (l : Loop) (ds : List (Sent plain)) → valid l ≡ true → valid (after handedBack l ds) ≡ true
 unfolding after
 all-valid l [] v = v
-all-valid l (d ∷ ds) v = all-valid (left l d) ds (delivered-valid l (d .number) (d .command) v)
+all-valid l (d ∷ ds) v = all-valid (handedBack l d) ds (delivered-valid l (d .number) (d .command) v)

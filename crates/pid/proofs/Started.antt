@@ -17,7 +17,7 @@ use Rattle.pid.specs.Walk.{Delivery, start, plain, keptFrom, Demand3}
 use Rattle.pid.proofs.Sound.{Holds}
 use Rattle.pid.proofs.Kept.{fresh-holds}
 use Rattle.pid.proofs.Walked.{all-answers}
-use Rattle.pid.proofs.Served.{memory, loop, left-after}
+use Rattle.pid.proofs.Served.{memory, loop, end-after}
 
 accepted-holds : (s : Settings) → settingsRefusal s ≡ 0 → Holds (freshOf s)
 accepted-holds s e =
@@ -35,6 +35,6 @@ made-fresh P s f =
 pub fresh-demand : (s : Settings) (ds : List (Delivery Command)) → Holds (freshOf s) → Demand3 (freshOf s) ds
 unfolding memory
 fresh-demand s ds h = record {
-  end-state = rw (zero-add (length (keptFrom (freshOf s) ds))) at (left-after (start plain (freshOf s)) ds h refl);
+  end-state = rw (zero-add (length (keptFrom (freshOf s) ds))) at (end-after (start plain (freshOf s)) ds h refl);
   answers = all-answers plain loop (start plain (freshOf s)) ds h refl;
 }

@@ -10,10 +10,10 @@ use Rattle.pid.specs.declared.record.Command.{Command}
 use Rattle.pid.specs.declared.record.Loop.{Loop}
 use Rattle.pid.specs.Record.{valid}
 use Rattle.pid.specs.Law.{refusalOf}
-use Rattle.pid.specs.Walk.{Delivery, Walk, after, keeps, keeping, kept, plain, left, standing}
+use Rattle.pid.specs.Walk.{Delivery, Walk, after, keeps, keeping, kept, plain, handedBack, standing}
 use Rattle.pid.specs.Run.{accepted, unbroken, shares}
 use Rattle.pid.proofs.Shares.{run-shares}
-use Rattle.pid.proofs.Served.{left-from}
+use Rattle.pid.proofs.Served.{end-from}
 
 accepted-by : (w : Walk plain) (d : Delivery Command) (ds : List (Delivery Command)) →
     ((v : Walk plain) → accepted (v .state) (kept plain v ds) ≡ true) → (b : Bool) → keeps plain w d ≡ b →
@@ -29,7 +29,7 @@ kept-accepted w [] = refl
 kept-accepted w (d ∷ ds) = accepted-by w d ds (λ v. kept-accepted v ds) (keeps plain w d) refl
 
 pub delivered-shares : (l : Loop) (ds : List (Delivery Command)) → valid l ≡ true → unbroken l (kept plain (standing l) ds) ≡ true →
-    after left l ds .integral ≡ l .integral +ℤ shares l (kept plain (standing l) ds)
+    after handedBack l ds .integral ≡ l .integral +ℤ shares l (kept plain (standing l) ds)
 delivered-shares l ds v u =
-    ap (λ (x : Loop). x .integral) (left-from l ds v)
+    ap (λ (x : Loop). x .integral) (end-from l ds v)
     ∙ run-shares l (kept plain (standing l) ds) v (kept-accepted (standing l) ds) u

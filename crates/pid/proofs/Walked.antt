@@ -9,7 +9,7 @@ use lib.Dec.{eqb}
 use lib.ListN.{length}
 use Rattle.whole.proofs.Truth.{never, both, push, by-test, chosen, cond-yes, cond-no}
 use Rattle.pid.specs.Delivery.{Verdict, refused, repeated, accepted, verdict}
-use Rattle.pid.specs.Walk.{Law, Delivery, Answer, after, told, Latest, none, latest, Walk, keeps, keptAnswer, repeatAnswer, keeping, namedRefusal, refusedAnswer, answerTo, onward, kept}
+use Rattle.pid.specs.Walk.{Law, Delivery, Answer, after, each, Latest, none, latest, Walk, keeps, keptAnswer, repeatAnswer, keeping, namedRefusal, refusedAnswer, answerTo, onward, kept}
 use Rattle.pid.proofs.Verdicts.{number-accepted, in-turn}
 
 abbrev pub Sent : Law → Type 0
@@ -56,13 +56,13 @@ module _ (L : Law) where
 -- and the law's rules of a state, which hold again after each accepted command
 pub record Engine (L : Law) : Type 1 where
   pub Record : Type 0
-  pub left : Record → Sent L → Record
+  pub handedBack : Record → Sent L → Record
   pub answered : Record → Sent L → Answer (L .Output)
   pub at : Walk L → Record
   pub Rules : L .State → Type 0
   pub keep-rules : (s : L .State) (c : L .Command) → Rules s → L .refusal s c ≡ 0 → Rules (L .step s c)
   pub answers : (w : Walk L) (d : Sent L) → Rules (w .state) → Agrees L w → answered (at w) d ≡ answerBy L w d (judged L w d)
-  pub leaves : (w : Walk L) (d : Sent L) → Rules (w .state) → Agrees L w → left (at w) d ≡ at (walkBy L w d (judged L w d))
+  pub hands : (w : Walk L) (d : Sent L) → Rules (w .state) → Agrees L w → handedBack (at w) d ≡ at (walkBy L w d (judged L w d))
 
 -- ---- one delivery, as demand 3 says it
 
@@ -154,23 +154,23 @@ module _ (L : Law) where
 -- ---- every list of deliveries
 
 module _ (L : Law) (E : Engine L) where
-  turn-left : (w : Walk L) (d : Sent L) → E .Rules (w .state) → Agrees L w → E .left (E .at w) d ≡ E .at (onward L w d)
-  turn-left w d r a = E .leaves w d r a ∙ ap (E .at) (onward-so L w d a)
+  turn : (w : Walk L) (d : Sent L) → E .Rules (w .state) → Agrees L w → E .handedBack (E .at w) d ≡ E .at (onward L w d)
+  turn w d r a = E .hands w d r a ∙ ap (E .at) (onward-so L w d a)
 
   pub ends : (w : Walk L) (ds : List (Sent L)) → E .Rules (w .state) → Agrees L w →
-      after (E .left) (E .at w) ds ≡ E .at (after (onward L) w ds)
+      after (E .handedBack) (E .at w) ds ≡ E .at (after (onward L) w ds)
   unfolding after
   ends w [] r a = refl
   ends w (d ∷ ds) r a =
-      ap (λ (x : E .Record). after (E .left) x ds) (turn-left w d r a)
+      ap (λ (x : E .Record). after (E .handedBack) x ds) (turn w d r a)
       ∙ ends (onward L w d) ds (still-ruled L w d (E .Rules) (E .keep-rules) r) (still-agrees L w d a)
 
   pub all-answers : (w : Walk L) (ds : List (Sent L)) → E .Rules (w .state) → Agrees L w →
-      told (E .left) (E .answered) (E .at w) ds ≡ told (onward L) (answerTo L) w ds
-  unfolding told
+      each (E .handedBack) (E .answered) (E .at w) ds ≡ each (onward L) (answerTo L) w ds
+  unfolding each
   all-answers w [] r a = refl
   all-answers w (d ∷ ds) r a =
       ap₂ (λ (x : Answer (L .Output)) (xs : List (Answer (L .Output))). x ∷ xs)
       (E .answers w d r a ∙ answered-so L w d a)
-      (ap (λ (x : E .Record). told (E .left) (E .answered) x ds) (turn-left w d r a)
+      (ap (λ (x : E .Record). each (E .handedBack) (E .answered) x ds) (turn w d r a)
       ∙ all-answers (onward L w d) ds (still-ruled L w d (E .Rules) (E .keep-rules) r) (still-agrees L w d a))

@@ -3,5 +3,6 @@ pub mod Demand1
 pub mod Demand2
 pub mod Delivery
 pub mod Demand3
+pub mod Replay
 pub mod Examples
 pub mod Bench

@@ -6,5 +6,6 @@ pub mod Bounds
 pub mod Law
 pub mod Delivery
 pub mod Walk
+pub mod Replay
 pub mod Run
 pub mod Bench

@@ -48,9 +48,9 @@ after step s [] = s
 after step s (x ∷ xs) = after step (step s x) xs
 
 -- and what each of them is answered, where one of them is answered `answer s x` in s
-unfoldable pub told : {S X A : Type 0} → (S → X → S) → (S → X → A) → S → List X → List A
-told step answer s [] = []
-told step answer s (x ∷ xs) = answer s x ∷ told step answer (step s x) xs
+unfoldable pub each : {S X A : Type 0} → (S → X → S) → (S → X → A) → S → List X → List A
+each step answer s [] = []
+each step answer s (x ∷ xs) = answer s x ∷ each step answer (step s x) xs
 
 -- ---- the walk
 
@@ -140,8 +140,8 @@ answerIn r = record { code = r .code; output = r .output; number = r .number }
 abbrev pub answered : Loop → Delivery Command → Answer ℤ
 answered l d = answerIn (deliveredOf l (d .number) (d .command))
 
-abbrev pub left : Loop → Delivery Command → Loop
-left l d = deliveredOf l (d .number) (d .command) .state
+abbrev pub handedBack : Loop → Delivery Command → Loop
+handedBack l d = deliveredOf l (d .number) (d .command) .state
 
 abbrev pub keptFrom : Loop → List (Delivery Command) → List Command
 keptFrom l ds = kept plain (start plain l) ds
@@ -155,10 +155,10 @@ lastOf m (c ∷ cs) = lastOf (Kept c) cs
 pub record Demand3 (l : Loop) (ds : List (Delivery Command)) : Type 0 where
   -- "The end state is the law's after the kept commands, each given once": their count is the last number, the last of them
   -- the last command
-  pub end-state : after left l ds ≡ remembering (after stepOf l (keptFrom l ds)) (length (keptFrom l ds)) (lastOf Nothing (keptFrom l ds))
+  pub end-state : after handedBack l ds ≡ remembering (after stepOf l (keptFrom l ds)) (length (keptFrom l ds)) (lastOf Nothing (keptFrom l ds))
   -- "A kept delivery gets the law's output, an exact repeat of the latest kept one gets that same answer, and every other
   -- gets its named refusal."
-  pub answers : told left answered l ds ≡ told (onward plain) (answerTo plain) (start plain l) ds
+  pub answers : each handedBack answered l ds ≡ each (onward plain) (answerTo plain) (start plain l) ds
 
 -- ---- from any record that keeps the state rules, also one never reached
 

@@ -2,5 +2,6 @@
 pub mod delivery;
 pub mod law;
 pub mod record;
+pub mod replay;
 mod sample;
 pub mod settings;

@@ -18,9 +18,9 @@ use Rattle.pid.specs.declared.delivery.Delivered.{Delivered}
 use Rattle.pid.specs.Record.{inB, valid}
 use Rattle.pid.specs.Law.{refusalOf, stepOf}
 use Rattle.pid.specs.Delivery.{isLast, remembering, answerOf, deliveredOf}
-use Rattle.pid.specs.Walk.{Delivery, after, kept, plain, left, standing, lastOf}
+use Rattle.pid.specs.Walk.{Delivery, after, kept, plain, handedBack, standing, lastOf}
 use Rattle.pid.proofs.Sound.{holds-of}
-use Rattle.pid.proofs.Served.{by-verdict, kept-one, kept-twice, delivered-valid, left-from}
+use Rattle.pid.proofs.Served.{by-verdict, kept-one, kept-twice, delivered-valid, end-from}
 
 -- the record that comes back keeps the state rules
 pub again-valid : (l : Loop) (n : ℕ) (c : Command) → valid l ≡ true → valid (deliveredOf l n c .state) ≡ true
@@ -78,6 +78,6 @@ last-number l n c e h =
 
 -- the end state after a list, from any record that keeps the rules: the law's after the kept commands
 pub end-state : (l : Loop) (ds : List (Delivery Command)) → valid l ≡ true →
-    after left l ds
+    after handedBack l ds
     ≡ remembering (after stepOf l (kept plain (standing l) ds)) (l .number + length (kept plain (standing l) ds)) (lastOf (l .last) (kept plain (standing l) ds))
-end-state = left-from
+end-state = end-from

@@ -7,7 +7,7 @@ use Rattle.pid.specs.declared.settings.Settings.{Settings}
 use Rattle.pid.specs.declared.record.Command.{Command}
 use Rattle.pid.specs.declared.record.Loop.{Loop}
 use Rattle.pid.specs.Record.{madeOf, valid}
-use Rattle.pid.specs.Walk.{Delivery, Demand3, after, kept, plain, left, standing}
+use Rattle.pid.specs.Walk.{Delivery, Demand3, after, kept, plain, handedBack, standing}
 use Rattle.pid.specs.Run.{unbroken, shares}
 use Rattle.pid.proofs.Summed.{delivered-shares}
 use Rattle.pid.proofs.Started.{made-fresh, fresh-demand}
@@ -20,5 +20,5 @@ demand-3 s e ds = made-fresh (λ (l : Loop). Demand3 l ds) s (fresh-demand s ds)
 -- error, one share for each sample": from any record that keeps the state rules, over any list of deliveries. Repeats, gaps,
 -- reused numbers and refusals between add nothing
 pub integral-moves-by-shares : (l : Loop) (ds : List (Delivery Command)) → valid l ≡ true → unbroken l (kept plain (standing l) ds) ≡ true →
-    after left l ds .integral ≡ l .integral +ℤ shares l (kept plain (standing l) ds)
+    after handedBack l ds .integral ≡ l .integral +ℤ shares l (kept plain (standing l) ds)
 integral-moves-by-shares = delivered-shares
