@@ -1,0 +1,136 @@
+//! The proved replay against the rewrite in ordinary Rust, in one x86-64 process: equal input, equal outputs, instructions
+//! a sample and time. It fails where the proved side takes more than one and a half times as much.
+mod count;
+mod rewrite;
+
+use rewrite::Loop;
+use std::arch::asm;
+use std::time::Instant;
+
+const SAMPLES: usize = 864_000;
+const TURNS: usize = 31;
+const MOST: f64 = 1.5;
+const TARGET: i32 = 800;
+
+/// Settings C of document 01, in the order of the text.
+const C: [i32; 26] = [
+    0, 0, 1000, 100, 500, 50, //
+    65536, 16384, 0, 65536, 0, //
+    131072, 16384, 65536, 32768, 0, //
+    65536, 16384, 0, 65536, 32768, //
+    32768, 0, 0, 65536, 0,
+];
+
+extern "C" {
+    fn port_replay(
+        values: *const i32,
+        values_len: usize,
+        set: i32,
+        target: i32,
+        samples: *const i32,
+        samples_len: usize,
+        out: *mut i32,
+        out_len: usize,
+    ) -> i32;
+}
+
+/// Keeps the optimiser from knowing a value.
+fn hidden<T>(x: T) -> T {
+    unsafe {
+        asm!("/* {0} */", in(reg) &x, options(nostack, preserves_flags));
+    }
+    x
+}
+
+type Replay = fn(i32, &[i32], &mut [i32]) -> i32;
+
+fn proved(set: i32, samples: &[i32], out: &mut [i32]) -> i32 {
+    unsafe {
+        port_replay(C.as_ptr(), C.len(), set, TARGET, samples.as_ptr(), samples.len(), out.as_mut_ptr(), out.len())
+    }
+}
+
+fn rust(set: i32, samples: &[i32], out: &mut [i32]) -> i32 {
+    match Loop::new(hidden(&C), set as usize, TARGET).replay(samples, out) {
+        Ok(()) => 0,
+        Err(_) => 4,
+    }
+}
+
+fn run(replay: Replay, set: i32, samples: &[i32], out: &mut [i32]) {
+    let code = hidden(replay(hidden(set), hidden(samples), out));
+    assert_eq!(code, 0, "the replay is refused");
+}
+
+/// Exact: what 1,000 more samples add.
+fn instructions(replay: Replay, set: i32, samples: &[i32]) -> f64 {
+    let mut out = vec![0; 1256];
+    let few = count::count(|| run(replay, set, &samples[..256], &mut out[..256]));
+    let many = count::count(|| run(replay, set, &samples[..1256], &mut out));
+    (many - few) as f64 / 1000.0
+}
+
+fn seconds(replay: Replay, set: i32, samples: &[i32], out: &mut [i32]) -> f64 {
+    let start = Instant::now();
+    run(replay, set, samples, out);
+    start.elapsed().as_secs_f64()
+}
+
+fn median(mut times: Vec<f64>) -> f64 {
+    times.sort_by(|a, b| a.partial_cmp(b).unwrap());
+    times[times.len() / 2]
+}
+
+/// An oven's drift by a few units a sample, or temperatures anywhere in the range.
+fn series(wild: bool) -> Vec<i32> {
+    let mut state: u64 = 12_345;
+    let mut drift: i64 = 480;
+    let mut next = || {
+        state = state.wrapping_mul(6_364_136_223_846_793_005).wrapping_add(1_442_695_040_888_963_407);
+        let bits = (state >> 33) as i64;
+        if wild {
+            return (bits % 2_000_001 - 1_000_000) as i32;
+        }
+        drift = (drift + bits % 7 - 3).clamp(300, 900);
+        drift as i32
+    };
+    (0..SAMPLES).map(|_| next()).collect()
+}
+
+/// One line of the report, and whether both ratios are within bounds.
+fn compare(set: i32, wild: bool, emulated: bool) -> bool {
+    let samples = series(wild);
+    let (mut ours, mut theirs) = (vec![0; SAMPLES], vec![1; SAMPLES]);
+    let (mut a, mut b) = (vec![], vec![]);
+    for _ in 0..TURNS {
+        // by turns, so that what disturbs one disturbs the other
+        a.push(seconds(proved, set, &samples, &mut ours));
+        b.push(seconds(rust, set, &samples, &mut theirs));
+    }
+    assert!(ours == theirs, "the outputs differ");
+    let (steps, rust_steps) = (instructions(proved, set, &samples), instructions(rust, set, &samples));
+    let (time, rust_time) = (median(a), median(b));
+    let name = if wild { "wild" } else { "smooth" };
+    println!(
+        "set {set} {name:6}  instructions a sample {steps:6.2} to {rust_steps:6.2}, ratio {:.3}  time {:6.2} ms to {:6.2} ms, ratio {:.3}{}",
+        steps / rust_steps,
+        time * 1e3,
+        rust_time * 1e3,
+        time / rust_time,
+        if emulated { " (emulated: says nothing)" } else { "" },
+    );
+    steps / rust_steps <= MOST && (emulated || time / rust_time <= MOST)
+}
+
+fn main() {
+    let emulated = std::env::var("X86_EMULATED").is_ok();
+    println!("a replay of {SAMPLES} samples, proved to ordinary Rust");
+    let mut within = true;
+    for set in 0..4 {
+        for wild in [false, true] {
+            within &= compare(set, wild, emulated);
+        }
+    }
+    println!("{}", if within { "every ratio within 1.5" } else { "A RATIO ABOVE 1.5" });
+    std::process::exit(i32::from(!within));
+}

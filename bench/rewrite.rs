@@ -1,0 +1,159 @@
+//! A replay as an engineer would write it in ordinary Rust: the record by `&mut`, one pass for the range, one for the law.
+//! Numbers are 64 bits wide within the record, which is the faster of the two ways. It is what the proved replay is measured
+//! against, and stays as it is.
+
+pub const F: i64 = 65_536;
+pub const B: i64 = 16_842_752_000_000;
+
+#[derive(Clone, Copy)]
+pub struct Gains {
+    pub kp: i64,
+    pub ki: i64,
+    pub kd: i64,
+    pub alpha: i64,
+    pub kt: i64,
+}
+
+#[derive(Clone, Copy)]
+pub struct Settings {
+    pub action: i64,
+    pub lo: i64,
+    pub hi: i64,
+    pub out: i64,
+    pub sp: i64,
+    pub rate: i64,
+    pub gains: [Gains; 4],
+}
+
+#[allow(dead_code)]
+#[derive(Clone, Copy)]
+pub enum Command {
+    Sample(i32),
+    Hold,
+    Put(i32),
+    Automatic,
+    Target(i32, i32),
+    Set(i32),
+}
+
+#[allow(dead_code)]
+#[derive(Clone, Copy)]
+pub struct Loop {
+    pub settings: Settings,
+    pub automatic: bool,
+    pub pending: bool,
+    pub set: usize,
+    pub w: i64,
+    pub target: i64,
+    pub rate: i64,
+    pub u: i64,
+    pub integral: i64,
+    pub primed: bool,
+    pub y: i64,
+    pub number: u32,
+    pub last: Option<Command>,
+}
+
+fn round(x: i64) -> i64 {
+    (x + 32_768) >> 16
+}
+
+impl Loop {
+    /// A fresh loop of settings whose values stand in the order of the text, automatic, with a gain set and a target.
+    pub fn new(values: &[i32; 26], set: usize, target: i32) -> Loop {
+        let value = |i: usize| i64::from(values[i]);
+        let gains = |k: usize| Gains {
+            kp: value(6 + 5 * k),
+            ki: value(7 + 5 * k),
+            kd: value(8 + 5 * k),
+            alpha: value(9 + 5 * k),
+            kt: value(10 + 5 * k),
+        };
+        let settings = Settings {
+            action: value(0),
+            lo: value(1),
+            hi: value(2),
+            out: value(3),
+            sp: value(4),
+            rate: value(5),
+            gains: [gains(0), gains(1), gains(2), gains(3)],
+        };
+        Loop {
+            settings,
+            automatic: true,
+            pending: true,
+            set,
+            w: settings.sp,
+            target: i64::from(target),
+            rate: settings.rate,
+            u: settings.out,
+            integral: 0,
+            primed: false,
+            y: 0,
+            number: 3,
+            last: Some(Command::Target(target, values[5])),
+        }
+    }
+
+    fn sample(&mut self, pv: i32) -> i32 {
+        let gains = self.settings.gains[self.set];
+        let sign = if self.settings.action == 0 { 1 } else { -1 };
+        let pv = i64::from(pv);
+        self.w += (self.target - self.w).clamp(-self.rate, self.rate);
+        let d = if self.primed {
+            let y = self.y + round((pv * F - self.y) * gains.alpha);
+            let d = round(gains.kd * sign * (self.y - y));
+            self.y = y;
+            d
+        } else {
+            self.y = pv * F;
+            self.primed = true;
+            0
+        };
+        let e = sign * (self.w - pv);
+        let p = gains.kp * e;
+        if self.automatic {
+            if self.pending {
+                self.integral = self.u * F - p - d;
+                self.pending = false;
+            } else {
+                self.ordinary(gains, e, p, d);
+            }
+        }
+        self.u as i32
+    }
+
+    fn ordinary(&mut self, gains: Gains, e: i64, p: i64, d: i64) {
+        let g = gains.ki * e;
+        let v = p + self.integral + g + d;
+        let lo = self.settings.lo * F;
+        let hi = self.settings.hi * F;
+        let limited = v.max(lo).min(hi);
+        self.u = round(limited);
+        self.integral = if gains.kt > 0 {
+            (self.integral + g + round(gains.kt * (limited - v))).clamp(-B, B)
+        } else if g > 0 {
+            self.integral.max((self.integral + g).min(hi - p - d))
+        } else if g < 0 {
+            self.integral.min((self.integral + g).max(lo - p - d))
+        } else {
+            self.integral
+        };
+    }
+
+    /// The place of the first sample out of range is the refusal; nothing is changed then.
+    #[inline(never)]
+    pub fn replay(&mut self, samples: &[i32], out: &mut [i32]) -> Result<(), usize> {
+        if let Some(place) = samples.iter().position(|pv| !(-1_000_000..=1_000_000).contains(pv)) {
+            return Err(place);
+        }
+        for (pv, u) in samples.iter().zip(out.iter_mut()) {
+            *u = self.sample(*pv);
+        }
+        if let Some(pv) = samples.last() {
+            self.number += samples.len() as u32;
+            self.last = Some(Command::Sample(*pv));
+        }
+        Ok(())
+    }
+}

@@ -1,0 +1,55 @@
+// The replay for programs in other languages: what the benchmark links.
+ghost use mathlib.Core.Path.{_≡_};
+ghost use lib.ListN.{length};
+ghost use Rattle.port.specs.Port.{readyOf, codeOf, outOf};
+use pid::record::Command;
+use pid::record::Loop;
+use pid::settings::Settings;
+
+// The first 26 numbers of a list that has as many.
+fn values_of(list: &[i32]) -> [i32; 26]
+    requires { ⌜ length (now list) ≡ 26 ⌝ }
+    ensures { λ r. ⌜ r ≡ now (list .entry) ⌝ }
+{
+    let mut values = [0i32; 26];
+    let mut i: usize = 0;
+    while i < 26 {
+        values[i] = list[i];
+        i += 1;
+    }
+    values
+}
+
+// The loop that is replayed: made of these settings, automatic, with a gain set, and a target at the settings' rate.
+fn ready(values: [i32; 26], set: i32, target: i32) -> Loop
+    ensures { λ r. ⌜ r ≡ readyOf values set target ⌝ }
+{
+    let made = Loop::make(Settings::of(values));
+    let fresh = made.state;
+    let first = fresh.deliver(1, Command::Automatic);
+    let automatic = first.state;
+    let second = automatic.deliver(2, Command::Set(set));
+    let chosen = second.state;
+    let third = chosen.deliver(3, Command::Target(target, values[5]));
+    third.state
+}
+
+// The code of a replay from that loop.
+#[no_mangle]
+pub extern "C" fn port_replay(
+    values: &[i32],
+    set: i32,
+    target: i32,
+    samples: &[i32],
+    out: &mut [i32],
+) -> i32
+    ensures { λ r. ⌜ r ≡ codeOf (now (values .entry)) set target (now (samples .entry)) (length (now (out .entry))) ⌝ }
+    ensures { λ _. ⌜ now (out .exit) ≡ outOf (now (values .entry)) set target (now (samples .entry)) (now (out .entry)) ⌝ }
+{
+    if values.len() != 26 {
+        return 11;
+    }
+    let start = ready(values_of(values), set, target);
+    let done = start.replay(4, samples, out);
+    done.code as i32
+}
