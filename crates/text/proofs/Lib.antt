@@ -1,0 +1,14 @@
+pub mod Lists
+pub mod Digits
+pub mod Signs
+pub mod Decimals
+pub mod Shows
+pub mod Stores
+pub mod Rows
+pub mod Texts
+pub mod Longest
+pub mod Writes
+pub mod Trip
+pub mod Values
+pub mod SettingsC
+pub mod promises

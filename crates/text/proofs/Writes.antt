@@ -1,0 +1,80 @@
+-- Laws of what the writer answers and leaves.
+use Prim.Native.Nat.{ℕ, zero, suc, _<_, _≤_}
+use mathlib.Core.Path.{_≡_, refl}
+use mathlib.Core.Bool.{true, cond}
+use mathlib.Core.List.{List, _++_}
+use native.Mathlib.Omega.{arith}
+use borrow.Author.Tests.{lt-ltb, le-ltb, ltb-false, eq-eqb, ne-eqb}
+use lib.Dec.{ltb, eqb}
+use lib.ListN.{length, drop}
+use Rattle.whole.proofs.Truth.{zero-if, zero-else, zero-then}
+use Rattle.pid.specs.declared.settings.Settings.{Settings}
+use Rattle.pid.specs.Settings.{inTable, ordered, settingsRefusal}
+use Rattle.text.specs.declared.writer.Written.{Written}
+use Rattle.text.specs.Lines.{textOf}
+use Rattle.text.specs.Writer.{writeCode, writtenOf, bufferAfter}
+use Rattle.text.proofs.Longest.{text-long}
+
+module _ (s : Settings) (buffer : List ℕ) where
+  -- what the writer answers, and what the buffer then holds
+  pub record Leaves (answer : Written) (after : List ℕ) : Type 0 where
+    pub says : answer ≡ writtenOf s (length buffer)
+    pub holds : after ≡ bufferAfter s buffer
+
+  refuses : (code : ℕ) → (code ≡ 0 → ⊥) → writeCode s (length buffer) ≡ code → Leaves (record { code = code; len = 0 }) buffer
+  unfolding writtenOf bufferAfter
+  refuses code f e = record { says = rw (e, ne-eqb code 0 f); holds = rw (e, ne-eqb code 0 f) }
+
+  pub settings-refused : (code : ℕ) → code ≡ settingsRefusal s → (code ≡ 0 → ⊥) → Leaves (record { code = code; len = 0 }) buffer
+  unfolding writeCode
+  settings-refused code e f = refuses code f (rw (← e, ne-eqb code 0 f))
+
+  pub too-short : settingsRefusal s ≡ 0 → length buffer < length (textOf s) → Leaves (record { code = 18; len = 0 }) buffer
+  unfolding writeCode
+  too-short e h =
+      refuses 18 (λ z. omega arith) (rw (eq-eqb (settingsRefusal s) 0 e, lt-ltb (length buffer) (length (textOf s)) h))
+
+  pub fits-in : settingsRefusal s ≡ 0 → length (textOf s) ≤ length buffer →
+      Leaves (record { code = 0; len = length (textOf s) }) (textOf s ++ drop (length (textOf s)) buffer)
+  unfolding writeCode writtenOf bufferAfter
+  fits-in e h =
+      let c : writeCode s (length buffer) ≡ 0 = rw (eq-eqb (settingsRefusal s) 0 e, le-ltb (length buffer) (length (textOf s)) h) in
+      record { says = rw c; holds = rw c }
+
+-- settings that nothing is wrong with have a text of at most 306 bytes
+pub record Sound (s : Settings) : Type 0 where
+  pub within : inTable s ≡ true
+  pub order : ordered s ≡ true
+
+pub sound : (s : Settings) → settingsRefusal s ≡ 0 → Sound s
+sound s e =
+    let t = zero-if (inTable s) (cond (ordered s) 0 16) 10 e in
+    record { within = t .0; order = zero-then (ordered s) 15 (t .1) }
+
+pub sound-long : (s : Settings) → settingsRefusal s ≡ 0 → length (textOf s) ≤ 306
+sound-long s e = let t = sound s e in text-long s (t .within) (t .order)
+
+-- ---- a code that is 0: nothing is wrong with the settings, and the text fits
+pub record Wrote (s : Settings) (buffer : List ℕ) : Type 0 where
+  pub right : settingsRefusal s ≡ 0
+  pub fit : length (textOf s) ≤ length buffer
+
+-- a code that is passed on where it is not 0
+passed : (k n : ℕ) → cond (eqb k 0) n k ≡ 0 → (k ≡ 0) × (n ≡ 0)
+passed zero n e = (refl, e)
+passed (suc k) n e = absurd (let q : suc k ≡ 0 = rw (ne-eqb (suc k) 0 (λ z. omega arith)) at e in omega arith)
+
+pub wrote : (s : Settings) (buffer : List ℕ) → writtenOf s (length buffer) .code ≡ 0 → Wrote s buffer
+unfolding writtenOf writeCode
+wrote s buffer e =
+    let p = passed (settingsRefusal s) (cond (ltb (length buffer) (length (textOf s))) 18 0) e in
+    let b = zero-else (ltb (length buffer) (length (textOf s))) 17 0 (p .1) in
+    record { right = p .0; fit = ltb-false (length buffer) (length (textOf s)) (b .0) }
+
+-- a code that is not 0: the answer's length is 0, and the buffer is as it was
+pub wrote-nothing : (s : Settings) (buffer : List ℕ) → (writtenOf s (length buffer) .code ≡ 0 → ⊥) →
+    (writtenOf s (length buffer) .len ≡ 0) × (bufferAfter s buffer ≡ buffer)
+unfolding writtenOf bufferAfter
+wrote-nothing s buffer f =
+    let e = ne-eqb (writeCode s (length buffer)) 0 f in
+    (rw e, rw e)

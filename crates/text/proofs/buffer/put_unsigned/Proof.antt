@@ -1,0 +1,32 @@
+use Prim.Native.Nat.{_-_, _≤_}
+use mathlib.Core.Path.{_≡_}
+use native.Mathlib.Omega.{arith}
+use mir.Facts.{toZ-ofZ}
+use denote.Ref.{now}
+use lib.ListN.{length}
+use Rattle.text.specs.Decimal.{shown, decimal, padded}
+use Rattle.text.proofs.Shows.{shown-room, decimal-room, shown-stored}
+use borrow.Author.Needs.{needs}
+use Rattle.text.proofs.buffer.put_unsigned.Statement.{statement}
+use Rattle.text.proofs.buffer.put_unsigned.Tie as tie
+
+digits-of-requires : tie.Need-digits-of-requires
+digits-of-requires c κs = search needs
+
+told : (c : tie.After-digits-of) → c .digits-of .result ≡ padded (shown (c .before .before .before .args .n))
+told c = c .digits-of .ensures
+
+put-shown-requires : tie.Need-put-shown-requires
+put-shown-requires c κs = rw (told c) (omega arith)
+
+same-length : tie.Need-same-length
+same-length c = search needs
+
+returns : tie.Need-returns
+returns c =
+    let o = c .before .before .before in
+    let s = o .before .before .before in
+    shown-stored (now (s .args .buffer)) (s .args .at) (shown (s .args .n)) ((let h = shown-room (s .args .n) (s .fits .n .fits) in omega arith)) (told o) (c .before .before .put-shown .ensures)
+
+pub put-unsigned-spec : {M : Type 1} → statement M
+put-unsigned-spec = tie.close (tie.spec digits-of-requires put-shown-requires same-length returns)

@@ -1,0 +1,111 @@
+-- The loop's invariant: what is put in all is what is put of the lines that are left.
+use Prim.Native.Nat.{_+_, _-_, _*_, _≤_}
+use mathlib.Core.Path.{_≡_, refl, sym, ap, _∙_}
+use native.Mathlib.Nat.{zero-add}
+use native.Mathlib.Omega.{arith}
+use borrow.Author.Needs.{needs}
+use lib.IntN.{pos}
+use lib.ListN.{length, drop, getD}
+use lib.Seq.{sets}
+use mir.Syntax.{w32}
+use mir.Val.{SFits}
+use mir.Facts.{toZ-ofZ}
+use Rattle.whole.proofs.Bits.{elem-fits}
+use Rattle.pid.specs.Settings.{rows, noRow}
+use Rattle.text.specs.Lines.{lineOf, linesOf}
+use Rattle.text.proofs.Shows.{line-short}
+use Rattle.text.proofs.Rows.{key-short, lines-next, lines-end}
+use Rattle.text.proofs.Stores.{rest-stored}
+use Rattle.text.proofs.writer.put_lines.Statement.{statement}
+use Rattle.text.proofs.writer.put_lines.Tie as tie
+
+abbrev Inv-loop : tie.InvT-loop
+Inv-loop buffer₀ values at₀ i₀ buffer at i =
+    (i ≤ 26)
+    × (length buffer ≡ length buffer₀)
+    × (at ≤ 19 * i)
+    × (length (linesOf rows values) ≡ at + length (linesOf (drop i rows) (drop i values)))
+    × (sets buffer₀ 0 (linesOf rows values) ≡ sets buffer at (linesOf (drop i rows) (drop i values)))
+
+abbrev μ-loop : tie.MeasureT-loop
+μ-loop buffer₀ values at₀ i₀ buffer at i = 26 - i
+
+loop-holds : tie.Need-loop-holds Inv-loop μ-loop
+loop-holds c = (omega arith, refl, omega arith, sym (zero-add (length (linesOf rows (c .before .args .t2)))), refl)
+
+at-requires : tie.Need-at-requires Inv-loop μ-loop
+at-requires c κs = search needs
+
+mul-put-line : tie.Need-mul-put-line Inv-loop μ-loop
+mul-put-line c = omega arith
+
+array-copy-out-put-line : tie.Need-array-copy-out-put-line Inv-loop μ-loop
+array-copy-out-put-line c = omega arith
+
+put-line-requires : tie.Need-put-line-requires Inv-loop μ-loop
+put-line-requires c κs =
+    let l = c .before .before .before .before .loop in
+    (rw (c .before .at .ensures) (key-short (l .i)), omega (arith, l .inv .2))
+
+-- the line that was put is that of row i
+told : (c : tie.After-put-line Inv-loop μ-loop) →
+    let l = c .before .before .before .before .before .loop in
+    let line = lineOf (getD rows (l .i) noRow) (getD (c .before .before .before .before .before .before .before .args .t2) (l .i) (pos 0)) in
+    (c .put-line .result ≡ l .at + length line) × (c .put-line .last .0 ≡ sets (l .buffer) (l .at) line)
+told c =
+    let l = c .before .before .before .before .before .loop in
+    let f : SFits w32 (getD (c .before .before .before .before .before .before .before .args .t2) (l .i) (pos 0)) = search elem-fits in
+    rw (toZ-ofZ f, c .before .before .at .ensures) at (c .put-line .ensures)
+
+add-i : tie.Need-add-i Inv-loop μ-loop
+add-i c = omega arith
+
+loop-less : tie.Need-loop-less Inv-loop μ-loop
+loop-less c = omega arith
+
+loop-again : tie.Need-loop-again Inv-loop μ-loop
+loop-again c =
+    let p = c .before .before in
+    let l = p .before .before .before .before .before .loop in
+    let vs = p .before .before .before .before .before .before .before .args .t2 in
+    let f : SFits w32 (getD vs (l .i) (pos 0)) = search elem-fits in
+    let t = told p in
+    let n = lines-next vs (l .i) (p .before .before .before .before .loop-test .taken) (search needs) in
+    let r = getD rows (l .i) noRow in
+    let z = getD vs (l .i) (pos 0) in
+    let left = linesOf (drop (l .i + 1) rows) (drop (l .i + 1) vs) in
+    let q = rest-stored (l .buffer) (l .at) (lineOf r z) left n (t .0) (t .1) in
+    let short = line-short r z (key-short (l .i)) f in (
+      omega arith,
+      p .put-line .kept .0 ∙ l .inv .1,
+      omega (arith, l .inv .2),
+      l .inv .3 ∙ q .0,
+      l .inv .4 ∙ q .1,
+    )
+
+same-length : tie.Need-same-length Inv-loop μ-loop
+same-length c = c .before .loop .inv .1
+
+returns : tie.Need-returns Inv-loop μ-loop
+returns c =
+    let l = c .before .loop in
+    let vs = c .before .before .before .args .t2 in
+    let e = lines-end (drop (l .i) vs) (l .i) (c .loop-test .left) in
+    (omega (arith, l .inv .3, ap length e), sym (l .inv .4 ∙ ap (sets (l .buffer) (l .at)) e))
+
+pub put-lines-spec : {M : Type 1} → statement M
+put-lines-spec =
+    tie.close
+    (tie.spec
+    Inv-loop
+    μ-loop
+    loop-holds
+    at-requires
+    mul-put-line
+    array-copy-out-put-line
+    put-line-requires
+    add-i
+    loop-less
+    loop-again
+    same-length
+    returns)

@@ -1,0 +1,27 @@
+-- 01, "Settings text": the text that settings have.
+use Prim.Native.Nat.{ℕ}
+use mathlib.Core.List.{List, [], _∷_, _++_}
+use lib.IntN.{ℤ}
+use lib.ListN.{take}
+use Rattle.pid.specs.declared.settings.Row.{Row}
+use Rattle.pid.specs.declared.settings.Settings.{Settings}
+use Rattle.pid.specs.Settings.{rows, valuesOf}
+use Rattle.text.specs.Decimal.{decimal}
+
+-- the bytes of a row's key, with its `=`
+abbrev pub keyOf : Row → List ℕ
+keyOf r = take (r .1) (r .0)
+
+-- "each key, `=`, value, one line feed (byte 10)"
+abbrev pub lineOf : Row → ℤ → List ℕ
+lineOf r z = keyOf r ++ (decimal z ++ (10 ∷ []))
+
+-- a line for each row, with its value
+abbrev pub linesOf : List Row → List ℤ → List ℕ
+linesOf [] vs = []
+linesOf (r ∷ rs) [] = []
+linesOf (r ∷ rs) (z ∷ vs) = lineOf r z ++ linesOf rs vs
+
+-- "26 lines": those of the table's rows
+unfoldable pub textOf : Settings → List ℕ
+textOf s = linesOf rows (valuesOf s)

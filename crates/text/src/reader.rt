@@ -1,0 +1,138 @@
+// The settings' reader.
+ghost use mathlib.Core.Path.{_≡_};
+ghost use Prim.Native.Nat.{_≤_};
+ghost use Rattle.text.specs.Reader.{lineEnd, begins, valueIn, lineRead, refused, readEnd, readText};
+use crate::decimal::Decimal;
+use pid::settings::Row;
+use pid::settings::Settings;
+
+// What a text is read as. The line is that of codes 14 and 15; beside any code but 0 stand blank settings.
+pub struct Reading {
+    pub code: u8,
+    pub line: usize,
+    pub settings: Settings,
+}
+
+// What a line is read as: code 14, 15 or 0, and its value where that is 0.
+struct Line {
+    code: u8,
+    value: i32,
+}
+
+// The place of the first line feed, or the length where there is none.
+fn line_end(rest: &[u8]) -> usize
+    ensures { λ r. ⌜ r ≡ lineEnd (now (rest .entry)) ⌝ }
+{
+    let mut i: usize = 0;
+    while i < rest.len() {
+        if rest[i] == b'\n' {
+            return i;
+        }
+        i += 1;
+    }
+    i
+}
+
+fn begins(key: &[u8], line: &[u8]) -> bool
+    ensures { λ r. ⌜ r ≡ begins (now (key .entry)) (now (line .entry)) ⌝ }
+{
+    let mut i: usize = 0;
+    while i < key.len() {
+        if line.len() <= i {
+            return false;
+        }
+        if line[i] != key[i] {
+            return false;
+        }
+        i += 1;
+    }
+    true
+}
+
+// The value of a line, its line feed left out.
+fn value_in(row: Row, line: &[u8]) -> Decimal
+    requires { ⌜ row .1 ≤ 7 ⌝ }
+    ensures { λ r. ⌜ r ≡ valueIn row (now (line .entry)) ⌝ }
+{
+    let key = row.0;
+    let n = row.1;
+    if !begins(&key[..n], line) {
+        return Decimal::Wrong;
+    }
+    Decimal::of(&line[n..])
+}
+
+// The first line of what is left of a text; end is the place of its line feed.
+fn read_line(row: Row, rest: &[u8], end: usize) -> Line
+    requires { ⌜ row .1 ≤ 7 ⌝ }
+    requires { ⌜ end ≡ lineEnd (now rest) ⌝ }
+    ensures { λ r. ⌜ r ≡ lineRead row (now (rest .entry)) ⌝ }
+{
+    let ended = end < rest.len();
+    let value = value_in(row, &rest[..end]);
+    match value {
+        Decimal::Wrong => Line { code: 14, value: 0 },
+        Decimal::Is(x) => {
+            let held = row.holds(x);
+            if !ended {
+                return Line { code: 14, value: 0 };
+            }
+            if !held {
+                return Line { code: 15, value: 0 };
+            }
+            Line { code: 0, value: x }
+        }
+    }
+}
+
+fn refused(code: u8, line: usize) -> Reading
+    ensures { λ r. ⌜ r ≡ refused code line ⌝ }
+{
+    Reading {
+        code,
+        line,
+        settings: Settings::blank(),
+    }
+}
+
+// "Then 17, then 16."
+fn read_end(values: [i32; 26], left: usize) -> Reading
+    ensures { λ r. ⌜ r ≡ readEnd values left ⌝ }
+{
+    let settings = Settings::of(values);
+    let ordered = settings.is_ordered();
+    let follows = 0 < left;
+    if follows {
+        return refused(17, 0);
+    }
+    if !ordered {
+        return refused(16, 0);
+    }
+    Reading {
+        code: 0,
+        line: 0,
+        settings,
+    }
+}
+
+// Reads a settings text. "Lines count from 1 and are tested in order."
+pub fn read_settings(text: &[u8]) -> Reading
+    ensures { λ r. ⌜ r ≡ readText (now (text .entry)) ⌝ }
+{
+    let mut values = [0i32; 26];
+    let mut rest = text;
+    let mut i: usize = 0;
+    while i < 26 {
+        let end = line_end(rest);
+        let line = read_line(Row::at(i), rest, end);
+        let code = line.code;
+        if code != 0 {
+            return refused(code, i + 1);
+        }
+        let value = line.value;
+        values[i] = value;
+        rest = &rest[end + 1..];
+        i += 1;
+    }
+    read_end(values, rest.len())
+}

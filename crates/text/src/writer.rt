@@ -1,0 +1,73 @@
+// The settings' writer.
+ghost use mathlib.Core.Path.{_≡_};
+ghost use Prim.Native.Nat.{_+_, _≤_};
+ghost use lib.ListN.{length};
+ghost use lib.Seq.{sets};
+ghost use Rattle.pid.specs.Settings.{rows};
+ghost use Rattle.text.specs.Lines.{lineOf, linesOf};
+ghost use Rattle.text.specs.Writer.{writtenOf, bufferAfter};
+use crate::buffer::put;
+use crate::decimal::Shown;
+use pid::settings::Row;
+use pid::settings::Settings;
+
+// What the writer answers: the length is that of the text, 0 beside any code but 0.
+pub struct Written {
+    pub code: u8,
+    pub len: usize,
+}
+
+// "The longest text has 306 bytes."
+const LONGEST: usize = 306;
+
+// Puts a line from place at on, and answers the place after it.
+fn put_line(buffer: &mut [u8], at: usize, row: Row, x: i32) -> usize
+    requires { ⌜ row .1 ≤ 7 ⌝ }
+    requires { ⌜ at ≤ 65536 ⌝ }
+    ensures { λ r. ⌜ r ≡ at + length (lineOf row x) ⌝ }
+    ensures { λ r. ⌜ now (buffer .exit) ≡ sets (now (buffer .entry)) at (lineOf row x) ⌝ }
+{
+    let key = row.0;
+    let n = row.1;
+    let shown = Shown::of(x);
+    let bytes = shown.bytes;
+    let from = shown.from;
+    let start = at + n;
+    let end = start + (11 - from);
+    put(buffer, at, &key[..n]);
+    put(buffer, start, &bytes[from..]);
+    put(buffer, end, b"\n");
+    end + 1
+}
+
+// Puts the lines of the table's rows with these values, and answers their length.
+fn put_lines(buffer: &mut [u8], values: [i32; 26]) -> usize
+    ensures { λ r. ⌜ r ≡ length (linesOf rows values) ⌝ }
+    ensures { λ r. ⌜ now (buffer .exit) ≡ sets (now (buffer .entry)) 0 (linesOf rows values) ⌝ }
+{
+    let mut at: usize = 0;
+    let mut i: usize = 0;
+    while i < 26 {
+        at = put_line(buffer, at, Row::at(i), values[i]);
+        i += 1;
+    }
+    at
+}
+
+// Writes the settings' text from the buffer's first byte on; a refusal leaves every byte.
+pub fn write_settings(settings: Settings, buffer: &mut [u8]) -> Written
+    ensures { λ r. ⌜ r ≡ writtenOf settings (length (now (buffer .entry))) ⌝ }
+    ensures { λ r. ⌜ now (buffer .exit) ≡ bufferAfter settings (now (buffer .entry)) ⌝ }
+{
+    let code = settings.refusal();
+    if code != 0 {
+        return Written { code, len: 0 };
+    }
+    let mut space = [0u8; LONGEST];
+    let len = put_lines(&mut space, settings.values());
+    if buffer.len() < len {
+        return Written { code: 18, len: 0 };
+    }
+    put(buffer, 0, &space[..len]);
+    Written { code: 0, len }
+}
