@@ -1,0 +1,133 @@
+// The files of the two programs: a settings file, and a file of lines that is read in pieces. All that is written comes
+// from `stream`. What cannot be opened, read or written is told on standard error, and nothing more is written.
+use libc::STDERR_FILENO;
+use libc::STDOUT_FILENO;
+use stream::run::Run;
+
+// What a turn leaves: whether there is more to do, whether all went well, and the run.
+struct Left {
+    more: bool,
+    well: bool,
+    run: Run,
+}
+
+fn failed(run: Run, what: &[u8]) -> Left {
+    os::fail(what);
+    Left {
+        more: false,
+        well: false,
+        run,
+    }
+}
+
+// Reads one piece and writes what it leads to. `stream` asks 128 bytes of the buffer for each byte of the piece, so these
+// two sizes always do.
+fn turn(fd: i32, run: Run, path: &[u8]) -> Left {
+    let mut piece = [0u8; 512];
+    let got = libc::read(fd, &mut piece);
+    if got < 0 {
+        return failed(run, path);
+    }
+    if got == 0 {
+        return Left {
+            more: false,
+            well: true,
+            run,
+        };
+    }
+    let n = io::count(got, &piece);
+    let mut out = io::large_buffer();
+    let ran = run.feed(&piece[..n], &mut out);
+    let len = ran.len;
+    let next = ran.run;
+    if io::write_all(STDOUT_FILENO, &out[..len]) {
+        return Left {
+            more: ran.done & !next.ended,
+            well: true,
+            run: next,
+        };
+    }
+    failed(next, b"standard output")
+}
+
+// A proved loop has to end, and nothing says that a file does, so it counts its turns down from a number that no file
+// outlives.
+fn turns(fd: i32, run: Run, path: &[u8]) -> Left {
+    let mut left = u64::MAX;
+    let mut now = Left {
+        more: true,
+        well: true,
+        run,
+    };
+    while left > 0 && now.more {
+        left -= 1;
+        now = turn(fd, now.run, path);
+    }
+    now
+}
+
+// The file of lines, from its first byte to its end.
+fn lines(run: Run, path: &[u8]) {
+    let fd = os::open_read(path);
+    if fd < 0 {
+        os::fail(path);
+        return;
+    }
+    let last = turns(fd, run, path);
+    libc::close(fd);
+    if last.well {
+        let mut out = io::buffer();
+        let ran = last.run.finish(&mut out);
+        let len = ran.len;
+        io::write_all(STDOUT_FILENO, &out[..len]);
+    }
+}
+
+// Starts the run from a settings text.
+fn start(journal: bool, settings: &[u8], path: &[u8]) {
+    let mut out = io::buffer();
+    let ran = stream::start::begin(journal, settings, &mut out);
+    let len = ran.len;
+    let run = ran.run;
+    io::write_all(STDOUT_FILENO, &out[..len]);
+    if !run.ended {
+        lines(run, path);
+    }
+}
+
+// The settings file: its first 4,096 bytes, of which a settings text has at most 307. A read that fails answers no bytes,
+// and so does the end of the file; the read after it tells them apart.
+fn settings(journal: bool, path: &[u8], file: &[u8]) {
+    let fd = os::open_read(path);
+    if fd < 0 {
+        os::fail(path);
+        return;
+    }
+    let mut text = io::buffer();
+    let n = io::read_full(fd, &mut text);
+    let mut after = [0u8; 16];
+    let got = libc::read(fd, &mut after);
+    if got < 0 {
+        os::fail(path);
+        return;
+    }
+    libc::close(fd);
+    start(journal, &text[..n], file);
+}
+
+// A whole program: its first argument names the settings file, its second the file of lines.
+pub fn run(journal: bool, usage: &[u8]) {
+    let mut path = io::buffer();
+    let n = os::arg(1, &mut path);
+    if os::errno() != 0 {
+        io::write_all(STDERR_FILENO, usage);
+        return;
+    }
+    let mut file = io::buffer();
+    let m = os::arg(2, &mut file);
+    if os::errno() != 0 {
+        io::write_all(STDERR_FILENO, usage);
+        return;
+    }
+    settings(journal, &path[..n], &file[..m]);
+}

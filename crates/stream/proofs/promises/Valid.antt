@@ -1,0 +1,73 @@
+-- "Every loop the software makes keeps them": the loop of a run keeps the state rules from byte to byte, so that code 10 never shows.
+use Prim.Native.Nat.{ℕ}
+use mathlib.Core.Path.{_≡_, ap}
+use mathlib.Core.Bool.{Bool, true}
+use mathlib.Core.List.{List, [], _∷_}
+use lib.Dec.{eqb, ltb}
+use Rattle.whole.proofs.Truth.{chosen, cond-yes}
+use Rattle.pid.specs.declared.record.Loop.{Loop}
+use Rattle.pid.specs.declared.record.Command.the-variants.{Sample, Automatic}
+use Rattle.pid.specs.declared.settings.Settings.{Settings}
+use Rattle.pid.specs.declared.record.Made.{Made}
+use Rattle.pid.specs.Settings.{settingsRefusal}
+use Rattle.pid.specs.Record.{valid, madeOf}
+use Rattle.pid.proofs.promises.Demand1.{made-valid}
+use Rattle.text.specs.Reader.{readText}
+use borrow.Author.Tests.{eq-eqb}
+use Rattle.text.specs.declared.decimal.Decimal.{Decimal}
+use Rattle.text.specs.declared.decimal.Decimal.the-variants.{Is, Wrong}
+use Rattle.text.specs.Decimal.{decimalOf}
+use Rattle.stream.specs.declared.run.Run.{Run}
+use Rattle.stream.specs.Run.{Step, Judged, refused, answered, lineMost, lastNumber, wordOf, lineStep, keeping}
+use Rattle.stream.specs.Oven.{sampledOf, byAnswer, bySample, byDecimal, sampleLine}
+use Rattle.stream.specs.Feed.{judging, byteOf, after}
+use Rattle.stream.specs.Start.{firstLoop, begunBy, beginning}
+use Rattle.stream.proofs.Starts.{text-right}
+use Rattle.stream.proofs.Keeps.{delivered-valid}
+
+abbrev Good : Step → Type 0
+Good s = valid (s .run .state) ≡ true
+
+-- what a line leaves
+abbrev Leaves : Judged → Type 0
+Leaves (refused code) = Unit {0}
+Leaves (answered l text) = valid l ≡ true
+
+sample-leaves : (l : Loop) → valid l ≡ true → (d : Decimal) → Leaves (byDecimal l d)
+unfolding bySample byAnswer
+sample-leaves l v Wrong = tt
+sample-leaves l v (Is pv) =
+    chosen Leaves (eqb (l .number) lastNumber) (λ _. tt)
+    (λ _. chosen Leaves (eqb (sampledOf l pv .code) 0) (λ _. delivered-valid l _ (Sample pv) v) (λ _. tt))
+
+module _ (r : Run) (v : valid (r .state) ≡ true) where
+  line-good : (j : Judged) → Leaves j → Good (lineStep r j)
+  line-good (refused code) h = v
+  line-good (answered l text) h = h
+
+  judging-good : Good (judging r)
+  unfolding judging sampleLine
+  judging-good =
+      chosen Good (ltb lineMost (r .len)) (λ _. v)
+      (λ _. line-good (sampleLine (r .state) (wordOf r)) (sample-leaves (r .state) v (decimalOf (wordOf r))))
+
+  pub byte-valid : (b : ℕ) → valid (byteOf r b .run .state) ≡ true
+  unfolding byteOf keeping
+  byte-valid b =
+      chosen Good (r .ended) (λ _. v)
+      (λ _. chosen Good (eqb b 10) (λ _. judging-good) (λ _. chosen Good (ltb (r .len) lineMost) (λ _. v) (λ _. v)))
+
+made-right : (s : Settings) → settingsRefusal s ≡ 0 → madeOf s .code ≡ 0
+unfolding madeOf
+made-right s e = ap (λ (m : Made). m .code) (cond-yes _ _ (eq-eqb (settingsRefusal s) 0 e))
+
+pub stays-valid : (r : Run) (s : List ℕ) → valid (r .state) ≡ true → valid (after r s .state) ≡ true
+stays-valid r [] v = v
+stays-valid r (b ∷ s) v = stays-valid (byteOf r b .run) s (byte-valid r v b)
+
+-- and the loop that a settings text makes keeps them
+pub begun-valid : (journal : Bool) (s : List ℕ) → readText s .code ≡ 0 → valid (beginning journal s .run .state) ≡ true
+unfolding begunBy firstLoop
+begun-valid journal s e =
+    let v = made-valid (readText s .settings) (made-right (readText s .settings) (text-right s e)) in
+    rw (eq-eqb (readText s .code) 0 e) (chosen (λ (l : Loop). valid l ≡ true) journal (λ _. v) (λ _. delivered-valid _ 1 Automatic v))

@@ -1,0 +1,4 @@
+pub mod Run
+pub mod Oven
+pub mod Feed
+pub mod Start

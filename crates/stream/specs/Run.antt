@@ -1,0 +1,107 @@
+-- What is carried from one piece of a file to the next, and what both programs do with a line.
+use Prim.Native.Nat.{ℕ, _+_, _≤_}
+use mathlib.Core.Path.{_≡_}
+use mathlib.Core.Bool.{true, cond}
+use mathlib.Core.List.{List, [], _∷_, _++_}
+use lib.Dec.{ltb}
+use lib.ListN.{length, take, set}
+use lib.Seq.{sets}
+use Rattle.pid.specs.declared.record.Loop.{Loop}
+use Rattle.text.specs.Decimal.{shown}
+use Rattle.stream.specs.declared.run.Run.{Run}
+use Rattle.stream.specs.declared.run.Told.{Told}
+
+-- what a step leaves, and what it writes
+pub record Step : Type 0 where
+  pub run : Run
+  pub text : List ℕ
+
+-- the place after what a step wrote from place at on
+abbrev pub toldOf : ℕ → Step → Told
+toldOf at s = record { run = s .run; at = at + length (s .text) }
+
+-- the room for what one byte of a file can make a program write
+abbrev pub lineRoom : ℕ
+lineRoom = 128
+
+-- what a function that does a step from place at on answers, and what the buffer then holds; room bounds what it writes
+pub record Tells (room : ℕ) (s : Step) (at : ℕ) (before : List ℕ) (r : Told) (after : List ℕ) : Type 0 where
+  pub is : r ≡ toldOf at s
+  pub holds : after ≡ sets before at (s .text)
+  pub few : r .at ≤ at + room
+
+-- the room for a line of the file, which no well-formed line passes
+abbrev pub lineMost : ℕ
+lineMost = 80
+
+-- the largest number of 32 bits, 4,294,967,295
+abbrev pub lastNumber : ℕ
+lastNumber = 4294967295
+
+-- ---- a refusal
+
+-- the bytes of `refused ` with its space
+abbrev pub refusedWord : List ℕ
+refusedWord = 114 ∷ 101 ∷ 102 ∷ 117 ∷ 115 ∷ 101 ∷ 100 ∷ 32 ∷ []
+
+-- "it writes `refused`, the code and the line, one space between, and a line feed"
+unfoldable pub refusedLine : ℕ → ℕ → List ℕ
+refusedLine code line = refusedWord ++ (shown code ++ ((32 ∷ []) ++ (shown line ++ (10 ∷ []))))
+
+abbrev pub overOf : Run → Run
+overOf r = record {
+  ended = true;
+  journal = r .journal;
+  bytes = r .bytes;
+  len = r .len;
+  line = r .line;
+  state = r .state;
+}
+
+-- "The first refusal ends it"
+abbrev pub refusing : Run → ℕ → Step
+refusing r code = record { run = overOf r; text = refusedLine code (r .line) }
+
+-- ---- the line under way
+
+-- its bytes
+abbrev pub wordOf : Run → List ℕ
+wordOf r = take (r .len) (r .bytes)
+
+-- the line after a line. One past 4,294,967,295 keeps that number
+abbrev pub following : ℕ → ℕ
+following line = cond (ltb line lastNumber) (line + 1) line
+
+-- the next line begins, with the loop as this line left it
+abbrev pub nextOf : Run → Loop → Run
+nextOf r l = record {
+  ended = r .ended;
+  journal = r .journal;
+  bytes = r .bytes;
+  len = 0;
+  line = following (r .line);
+  state = l;
+}
+
+-- what a program makes of a whole line: a refusal with its code, or the loop that it leaves and the text that answers it
+pub data Judged : Type 0 where
+  refused : ℕ → Judged
+  answered : Loop → List ℕ → Judged
+
+abbrev pub lineStep : Run → Judged → Step
+lineStep r (refused code) = refusing r code
+lineStep r (answered l text) = record { run = nextOf r l; text = text }
+
+abbrev pub keptOf : Run → ℕ → Run
+keptOf r b = record {
+  ended = r .ended;
+  journal = r .journal;
+  bytes = set (r .bytes) (r .len) b;
+  len = r .len + 1;
+  line = r .line;
+  state = r .state;
+}
+
+-- a byte of a line that is too long for any well-formed one: "a malformed sample line [..] is 14"
+unfoldable pub keeping : Run → ℕ → Step
+keeping r b = cond (ltb (r .len) lineMost) (record { run = keptOf r b; text = [] }) (refusing r 14)

@@ -1,0 +1,60 @@
+// 01's program: each line of the file is a sample.
+ghost use Prim.Native.Nat.{_+_, _≤_};
+ghost use lib.ListN.{length};
+ghost use Rattle.stream.specs.Run.{answered, lineRoom, wordOf, lineStep, Tells};
+ghost use Rattle.stream.specs.Oven.{outputLine, bySample, sampleLine};
+use crate::run::Run;
+use crate::run::Told;
+use pid::record::Command;
+use pid::record::Loop;
+use text::buffer::put;
+use text::buffer::put_signed;
+use text::decimal::Decimal;
+
+impl Run {
+    // "writes each output as a decimal and a line feed"
+    fn answer(self, state: Loop, output: i32, out: &mut [u8], at: usize) -> Told
+        requires { ⌜ at + lineRoom ≤ length (now out) ⌝ }
+        ensures { λ r. ⌜ Tells lineRoom (lineStep self (answered state (outputLine output))) at (now (out .entry)) r (now (out .exit)) ⌝ }
+    {
+        let end = at + put_signed(out, at, output);
+        put(out, end, b"\n");
+        Told {
+            run: self.next(state),
+            at: end + 1,
+        }
+    }
+
+    fn sample(self, pv: i32, out: &mut [u8], at: usize) -> Told
+        requires { ⌜ at + lineRoom ≤ length (now out) ⌝ }
+        ensures { λ r. ⌜ Tells lineRoom (lineStep self (bySample (self .state) pv)) at (now (out .entry)) r (now (out .exit)) ⌝ }
+    {
+        let state = self.state;
+        let last = state.number;
+        if last == u32::MAX {
+            return self.refuse(13, out, at);
+        }
+        let told = state.deliver(last + 1, Command::Sample(pv));
+        let code = told.code;
+        if code == 0 {
+            let next = told.state;
+            return self.answer(next, told.output, out, at);
+        }
+        self.refuse(code, out, at)
+    }
+
+    // The line under way, once its line feed has come.
+    pub(crate) fn sample_line(self, out: &mut [u8], at: usize) -> Told
+        requires { ⌜ self .len ≤ 80 ⌝ }
+        requires { ⌜ at + lineRoom ≤ length (now out) ⌝ }
+        ensures { λ r. ⌜ Tells lineRoom (lineStep self (sampleLine (self .state) (wordOf self))) at (now (out .entry)) r (now (out .exit)) ⌝ }
+    {
+        let bytes = self.bytes;
+        let len = self.len;
+        let word = Decimal::of(&bytes[..len]);
+        match word {
+            Decimal::Wrong => self.refuse(14, out, at),
+            Decimal::Is(pv) => self.sample(pv, out, at),
+        }
+    }
+}

@@ -1,0 +1,98 @@
+// What is carried from one piece of a file to the next, and what both programs do with a line.
+ghost use mathlib.Core.Path.{_≡_};
+ghost use Prim.Native.Nat.{_+_, _≤_};
+ghost use lib.ListN.{length};
+ghost use lib.Seq.{sets};
+ghost use Rattle.stream.specs.Run.{lineRoom, refusedLine, refusing, following, overOf, nextOf, Tells, keeping};
+use pid::record::Loop;
+use text::buffer::put;
+use text::buffer::put_unsigned;
+
+// A run that is under way: the first len of the bytes are those of the line under way, whose number in the file is line.
+// The lines are deliveries for the journal, else samples. Once ended, nothing more is written.
+pub struct Run {
+    pub ended: bool,
+    pub journal: bool,
+    pub bytes: [u8; 80],
+    pub len: usize,
+    pub line: u32,
+    pub state: Loop,
+}
+
+// What a step leaves, and the place after what it put.
+pub(crate) struct Told {
+    pub run: Run,
+    pub at: usize,
+}
+
+// "it writes `refused`, the code and the line, one space between, and a line feed"
+pub(crate) fn put_refused(out: &mut [u8], at: usize, code: u8, line: u32) -> usize
+    requires { ⌜ at + lineRoom ≤ length (now out) ⌝ }
+    ensures { λ r. ⌜ (r ≡ at + length (refusedLine code line)) × (r ≤ at + lineRoom) ⌝ }
+    ensures { λ _. ⌜ now (out .exit) ≡ sets (now (out .entry)) at (refusedLine code line) ⌝ }
+{
+    put(out, at, b"refused ");
+    let space = at + 8 + put_unsigned(out, at + 8, code as u32);
+    put(out, space, b" ");
+    let end = space + 1 + put_unsigned(out, space + 1, line);
+    put(out, end, b"\n");
+    end + 1
+}
+
+// The line after this one. A line past 4,294,967,295 keeps that number.
+fn following(line: u32) -> u32
+    ensures { λ r. ⌜ r ≡ following line ⌝ }
+{
+    if line < u32::MAX {
+        return line + 1;
+    }
+    line
+}
+
+impl Run {
+    pub(crate) fn over(mut self) -> Run
+        ensures { λ r. ⌜ r ≡ overOf self ⌝ }
+    {
+        self.ended = true;
+        self
+    }
+
+    // The next line begins.
+    pub(crate) fn next(mut self, state: Loop) -> Run
+        ensures { λ r. ⌜ r ≡ nextOf self state ⌝ }
+    {
+        let line = following(self.line);
+        self.len = 0;
+        self.line = line;
+        self.state = state;
+        self
+    }
+
+    // "The first refusal ends it".
+    pub(crate) fn refuse(self, code: u8, out: &mut [u8], at: usize) -> Told
+        requires { ⌜ at + lineRoom ≤ length (now out) ⌝ }
+        ensures { λ r. ⌜ Tells lineRoom (refusing self code) at (now (out .entry)) r (now (out .exit)) ⌝ }
+    {
+        let end = put_refused(out, at, code, self.line);
+        Told {
+            run: self.over(),
+            at: end,
+        }
+    }
+
+    // A byte of the line under way; a line longer than any well-formed one is refused at once.
+    pub(crate) fn keep(mut self, b: u8, out: &mut [u8], at: usize) -> Told
+        requires { ⌜ at + lineRoom ≤ length (now out) ⌝ }
+        ensures { λ r. ⌜ Tells lineRoom (keeping self b) at (now (out .entry)) r (now (out .exit)) ⌝ }
+    {
+        let len = self.len;
+        if 80 <= len {
+            return self.refuse(14, out, at);
+        }
+        let mut bytes = self.bytes;
+        bytes[len] = b;
+        self.bytes = bytes;
+        self.len = len + 1;
+        Told { run: self, at }
+    }
+}

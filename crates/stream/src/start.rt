@@ -1,0 +1,71 @@
+// How a run starts: from a settings text.
+ghost use mathlib.Core.Path.{_≡_};
+ghost use lib.ListN.{length};
+ghost use Rattle.stream.specs.Feed.{Counts};
+ghost use Rattle.stream.specs.Start.{startOf, firstLoop, beginOf, outBegun};
+use crate::feed::Ran;
+use crate::run::Run;
+use pid::record::Command;
+use pid::record::Loop;
+use pid::settings::Settings;
+use text::reader::read_settings;
+
+// "It makes the loop, delivers automatic as number 1"; a journal has every delivery in its file.
+fn first_loop(journal: bool, settings: Settings) -> Loop
+    ensures { λ r. ⌜ r ≡ firstLoop journal settings ⌝ }
+{
+    let made = Loop::make(settings);
+    let state = made.state;
+    if journal {
+        return state;
+    }
+    let told = state.deliver(1, Command::Automatic);
+    told.state
+}
+
+impl Run {
+    fn start(journal: bool, line: u32, state: Loop) -> Run
+        ensures { λ r. ⌜ r ≡ startOf journal line state ⌝ }
+    {
+        Run {
+            ended: false,
+            journal,
+            bytes: [0; 80],
+            len: 0,
+            line,
+            state,
+        }
+    }
+}
+
+// A run from the settings text, over a file of samples or of deliveries; a refusal of the settings ends it.
+pub fn begin(journal: bool, settings: &[u8], out: &mut [u8]) -> Ran
+    ensures { λ r. ⌜ r ≡ beginOf journal (now (settings .entry)) (length (now (out .entry))) ⌝ }
+    ensures { λ _. ⌜ now (out .exit) ≡ outBegun journal (now (settings .entry)) (now (out .entry)) ⌝ }
+    ensures { λ r. ⌜ Counts (r .len) (now (out .exit)) ⌝ }
+{
+    if out.len() < 128 {
+        return Ran {
+            done: false,
+            run: Run::start(journal, 0, Loop::blank()).over(),
+            len: 0,
+        };
+    }
+    let read = read_settings(settings);
+    let code = read.code;
+    if code == 0 {
+        let found = read.settings;
+        return Ran {
+            done: true,
+            run: Run::start(journal, 1, first_loop(journal, found)),
+            len: 0,
+        };
+    }
+    let told = Run::start(journal, read.line as u32, Loop::blank()).refuse(code, out, 0);
+    let run = told.run;
+    Ran {
+        done: true,
+        run,
+        len: told.at,
+    }
+}
