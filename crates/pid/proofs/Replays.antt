@@ -19,11 +19,14 @@ use Rattle.pid.specs.Sample.{movedOf}
 use Rattle.pid.specs.Law.{withMoving, fixedOf, movingOf, sampleOf, refusalOf, stepOf}
 use Rattle.pid.specs.Delivery.{remembering}
 use Rattle.pid.specs.Walk.{Delivery, Answer, after, each, Latest, latest, Walk, keeps, keeping, keptAnswer, onward, answerTo, kept, plain, lastOf, recalled, standing}
-use Rattle.pid.specs.Replay.{numbered, outputsIn, recordAfter, outputsOf, firstBad, movedAfter, movedOutputs}
+use Rattle.pid.specs.Replay.{numbered, recordAfter, outputsOf, firstBad, movedAfter, movedOutputs}
 use Rattle.pid.proofs.Turns.{first-good}
 use Rattle.pid.proofs.Served.{end-from, answers-from}
 
 -- ---- each good sample with the next number is kept
+
+abbrev output : Answer ℤ → ℤ
+output a = a .output
 
 abbrev sent : ℕ → ℤ → Delivery Command
 sent n pv = record { number = n; command = Sample pv }
@@ -53,9 +56,9 @@ after-samples l m [] = refl
 after-samples l m (pv ∷ pvs) = after-samples l (movedOf (fixedOf l) m pv) pvs
 
 outputs-on : (l : Loop) (m : Moving) (k : ℕ) (t : Latest plain) (pvs : List ℤ) → firstBad pvs ≡ length pvs →
-    outputsIn (each (onward plain) (answerTo plain) (record { state = withMoving l m; count = k; latest = t }) (numbered (k + 1) pvs))
+    map output (each (onward plain) (answerTo plain) (record { state = withMoving l m; count = k; latest = t }) (numbered (k + 1) pvs))
     ≡ movedOutputs (fixedOf l) m pvs
-unfolding outputsIn each numbered stepOf sampleOf
+unfolding each numbered stepOf sampleOf
 outputs-on l m k t [] g = refl
 outputs-on l m k t (pv ∷ pvs) g =
     let h = first-good pv pvs g in
@@ -63,7 +66,7 @@ outputs-on l m k t (pv ∷ pvs) g =
     let d = sent (k + 1) pv in
     ap₂ (λ (u : ℤ) (us : List ℤ). u ∷ us)
     (ap (λ (a : Answer ℤ). a .output) (cond-yes (keptAnswer plain w d) _ (next-kept w pv (h .0))))
-    (ap (λ (x : Walk plain). outputsIn (each (onward plain) (answerTo plain) x (numbered (k + 1 + 1) pvs))) (next-onward w pv (h .0))
+    (ap (λ (x : Walk plain). map output (each (onward plain) (answerTo plain) x (numbered (k + 1 + 1) pvs))) (next-onward w pv (h .0))
     ∙ outputs-on l (movedOf (fixedOf l) m pv) (k + 1) (latest d (keptAnswer plain w d)) pvs (h .1))
 
 -- ---- both together
@@ -79,7 +82,7 @@ record-is l pvs v g =
 pub outputs-is : (l : Loop) (pvs : List ℤ) → valid l ≡ true → firstBad pvs ≡ length pvs →
     outputsOf l (l .number + 1) pvs ≡ movedOutputs (fixedOf l) (movingOf l) pvs
 outputs-is l pvs v g =
-    ap outputsIn (answers-from l (numbered (l .number + 1) pvs) v) ∙ outputs-on l (movingOf l) (l .number) (recalled l (l .last)) pvs g
+    ap (map output) (answers-from l (numbered (l .number + 1) pvs) v) ∙ outputs-on l (movingOf l) (l .number) (recalled l (l .last)) pvs g
 
 -- the last of some samples
 pub last-sample : (m : Last) (pvs : List ℤ) (n : ℕ) → length pvs ≡ n + 1 → lastOf m (map Sample pvs) ≡ Kept (Sample (getD pvs n (pos 0)))
@@ -104,6 +107,6 @@ no-record l n [] e = refl
 no-record l n (pv ∷ pvs) e = absurd (omega (arith, e))
 
 pub no-outputs : (l : Loop) (n : ℕ) (pvs : List ℤ) → length pvs ≡ 0 → outputsOf l n pvs ≡ []
-unfolding outputsIn each numbered
+unfolding each numbered
 no-outputs l n [] e = refl
 no-outputs l n (pv ∷ pvs) e = absurd (omega (arith, e))

@@ -6,13 +6,13 @@ use native.Mathlib.Omega.{arith}
 use borrow.Author.Tests.{eqb-true, eqb-false}
 use lib.Dec.{eqb}
 use lib.IntN.{ℤ, pos}
-use lib.ListN.{length, drop, getD, length-append, length-drop}
+use lib.ListN.{length, drop, getD, length-append, length-drop, length-map}
 use lib.Seq.{getD-append-add, getD-drop}
 use Rattle.whole.proofs.Truth.{by-test}
 use Rattle.pid.specs.declared.record.Loop.{Loop}
 use Rattle.pid.specs.declared.replay.Replayed.{Replayed}
 use Rattle.pid.specs.Walk.{Answer, each, handedBack, answered}
-use Rattle.pid.specs.Replay.{numbered, outputsIn, recordAfter, outputsOf, replayRefusal, doneOf, refusedOf, replayedOf, frontFilled, writtenOf}
+use Rattle.pid.specs.Replay.{numbered, recordAfter, outputsOf, replayRefusal, doneOf, refusedOf, replayedOf, frontFilled, writtenOf}
 use Rattle.pid.proofs.Served.{all-valid}
 use Rattle.pid.proofs.Turns.{each-length}
 use Rattle.pid.proofs.Replays.{record-is}
@@ -23,14 +23,9 @@ unfolding numbered
 numbered-length n [] = refl
 numbered-length n (pv ∷ pvs) = ap suc (numbered-length (n + 1) pvs)
 
-outputs-in-length : (as′ : List (Answer ℤ)) → length (outputsIn as′) ≡ length as′
-unfolding outputsIn
-outputs-in-length [] = refl
-outputs-in-length (a ∷ as′) = ap suc (outputs-in-length as′)
-
 pub outputs-length : (l : Loop) (first : ℕ) (pvs : List ℤ) → length (outputsOf l first pvs) ≡ length pvs
 outputs-length l first pvs =
-    outputs-in-length (each handedBack answered l (numbered first pvs)) ∙ each-length handedBack answered l (numbered first pvs) ∙ numbered-length first pvs
+    length-map (each handedBack answered l (numbered first pvs)) (λ (a : Answer ℤ). a .output) ∙ each-length handedBack answered l (numbered first pvs) ∙ numbered-length first pvs
 
 later : (vs out : List ℤ) (i : ℕ) → length vs ≤ i → getD (frontFilled vs out) i (pos 0) ≡ getD out i (pos 0)
 later vs out i h =

@@ -1,7 +1,7 @@
 -- 01, "Replay": a list of samples, delivered in order from a first number on, with a list whose front takes the outputs.
 use Prim.Native.Nat.{ℕ, suc, _+_, _-_}
 use mathlib.Core.Bool.{cond, _||_}
-use mathlib.Core.List.{List, [], _∷_, _++_}
+use mathlib.Core.List.{List, [], _∷_, _++_, map}
 use lib.Dec.{eqb, ltb, leb}
 use lib.IntN.{ℤ}
 use lib.ListN.{length, drop}
@@ -21,16 +21,12 @@ unfoldable pub numbered : ℕ → List ℤ → List (Delivery Command)
 numbered number [] = []
 numbered number (pv ∷ pvs) = record { number = number; command = Sample pv } ∷ numbered (number + 1) pvs
 
-unfoldable pub outputsIn : List (Answer ℤ) → List ℤ
-outputsIn [] = []
-outputsIn (a ∷ as′) = a .output ∷ outputsIn as′
-
 -- the record and the outputs
 abbrev pub recordAfter : Loop → ℕ → List ℤ → Loop
 recordAfter l first samples = after handedBack l (numbered first samples)
 
 abbrev pub outputsOf : Loop → ℕ → List ℤ → List ℤ
-outputsOf l first samples = outputsIn (each handedBack answered l (numbered first samples))
+outputsOf l first samples = map (λ (a : Answer ℤ). a .output) (each handedBack answered l (numbered first samples))
 
 -- ---- what is refused
 
@@ -58,16 +54,15 @@ replayRefusal l first samples room =
 
 -- ---- what comes back
 
--- "On success the record and outputs are those of delivering the n samples in order; [..] and the count is n." "Where a code
--- is not 4 the place is 0"
+-- "On success the record and outputs are those of delivering the n samples in order; [..] and the count is n."
 abbrev pub doneOf : Loop → ℕ → List ℤ → Replayed
 doneOf l first samples = record { code = 0; place = 0; count = length samples; state = recordAfter l first samples }
 
--- "then 4, with the place of the first bad sample"; "for every code but 4 the place is 0"; "On a refusal neither record nor
--- list changes, and the count is 0."
+-- "On a refusal neither record nor list changes, and the count is 0."
 abbrev pub refusedOf : Loop → ℕ → ℕ → Replayed
 refusedOf l code place = record { code = code; place = place; count = 0; state = l }
 
+-- "then 4, with the place of the first bad sample"; "for every code but 4 the place is 0"
 unfoldable pub replayedOf : Loop → ℕ → List ℤ → ℕ → Replayed
 replayedOf l first samples room =
     let code = replayRefusal l first samples room in

@@ -42,12 +42,12 @@ pub record Answer (O : Type 0) : Type 0 where
   pub output : O
   pub number : ℕ
 
--- what is left after a list of things done one after the other, where one of them makes `step s x` of s
+-- where a list of things done one after the other leads from s, if one of them, x, makes `step s x` of s
 unfoldable pub after : {S X : Type 0} → (S → X → S) → S → List X → S
 after step s [] = s
 after step s (x ∷ xs) = after step (step s x) xs
 
--- and what each of them is answered, where one of them is answered `answer s x` in s
+-- and what each of them is answered, if one of them, x, is answered `answer s x` in s
 unfoldable pub each : {S X A : Type 0} → (S → X → S) → (S → X → A) → S → List X → List A
 each step answer s [] = []
 each step answer s (x ∷ xs) = answer s x ∷ each step answer (step s x) xs
@@ -59,7 +59,7 @@ pub data Latest (L : Law) : Type 0 where
   none : Latest L
   latest : Delivery (L .Command) → Answer (L .Output) → Latest L
 
--- "the state reached" and "the count kept so far"
+-- where a walk stands: "the state reached", "the count kept so far", "the latest kept one"
 pub record Walk (L : Law) : Type 0 where
   pub state : L .State
   pub count : ℕ
@@ -136,7 +136,7 @@ plain = record {
 abbrev pub answerIn : Delivered → Answer ℤ
 answerIn r = record { code = r .code; output = r .output; number = r .number }
 
--- what a delivery is answered, and the record that it leaves
+-- what a delivery is answered, and the record that it hands back
 abbrev pub answered : Loop → Delivery Command → Answer ℤ
 answered l d = answerIn (deliveredOf l (d .number) (d .command))
 
@@ -146,7 +146,7 @@ handedBack l d = deliveredOf l (d .number) (d .command) .state
 abbrev pub keptFrom : Loop → List (Delivery Command) → List Command
 keptFrom l ds = kept plain (start plain l) ds
 
--- the last of some commands
+-- the last of some commands, and m where there is none
 unfoldable pub lastOf : Last → List Command → Last
 lastOf m [] = m
 lastOf m (c ∷ cs) = lastOf (Kept c) cs

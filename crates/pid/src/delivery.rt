@@ -132,7 +132,8 @@ impl Loop {
         }
         let code = self.refusal(c);
         if code == 0 {
-            return self.step(c).remember(number, c).answer(0);
+            let next = self.step(c);
+            return next.remember(number, c).answer(0);
         }
         self.answer(code)
     }

@@ -44,9 +44,10 @@ fn run(f: Fixed, start: Moving, samples: &[i32], out: &mut [i32]) -> Moving
     let mut i: usize = 0;
     while i < samples.len() {
         let z = sense(f, m, samples[i]);
-        m = act(f, m, z);
-        let u = m.u as i32;
+        let next = act(f, m, z);
+        let u = next.u as i32;
         out[i] = u;
+        m = next;
         i += 1;
     }
     m

@@ -1,4 +1,4 @@
--- DEMAND 1, of numbered delivery. "A refused call changes no loop [..]. From any record that passes 01's state rules, power
+-- DEMAND 1, of numbered delivery: "A refused call changes no loop [..]. From any record that passes 01's state rules, power
 -- stays within the loop's limits and the integral within 01's bound." And what 01 says of numbers, from any such record.
 use Prim.Native.Nat.{ℕ, _+_, _≤_}
 use mathlib.Core.Path.{_≡_, refl, sym, ap, _∙_}
@@ -15,10 +15,12 @@ use Rattle.pid.specs.declared.record.Command.{Command}
 use Rattle.pid.specs.declared.record.Last.the-variants.{Kept}
 use Rattle.pid.specs.declared.record.Loop.{Loop}
 use Rattle.pid.specs.declared.delivery.Delivered.{Delivered}
+use Rattle.pid.specs.Settings.{rows, inTable}
 use Rattle.pid.specs.Record.{inB, valid}
 use Rattle.pid.specs.Law.{refusalOf, stepOf}
 use Rattle.pid.specs.Delivery.{isLast, remembering, answerOf, deliveredOf}
 use Rattle.pid.specs.Walk.{Delivery, after, kept, plain, handedBack, standing, lastOf}
+use Rattle.pid.specs.Bench.{fine, atLimit}
 use Rattle.pid.proofs.Sound.{holds-of}
 use Rattle.pid.proofs.Served.{by-verdict, kept-one, kept-twice, delivered-valid, end-from}
 
@@ -60,8 +62,8 @@ other-leaves l n c f =
 
 -- "every command carries a number, and a second delivery of it must write nothing": whatever the first delivery did, the
 -- second gets the same answer and leaves the same record
-pub second-same : (l : Loop) (n : ℕ) (c : Command) → deliveredOf (deliveredOf l n c .state) n c ≡ deliveredOf l n c
-second-same l n c =
+pub second-writes-nothing : (l : Loop) (n : ℕ) (c : Command) → deliveredOf (deliveredOf l n c .state) n c ≡ deliveredOf l n c
+second-writes-nothing l n c =
     by-test (valid l)
     (λ v. by-test (eqb n (l .number + 1) && eqb (refusalOf l c) 0)
     (λ e. let b = both (eqb n (l .number + 1)) (eqb (refusalOf l c) 0) e in
@@ -81,3 +83,8 @@ pub end-state : (l : Loop) (ds : List (Delivery Command)) → valid l ≡ true �
     after handedBack l ds
     ≡ remembering (after stepOf l (kept plain (standing l) ds)) (l .number + length (kept plain (standing l) ds)) (lastOf (l .last) (kept plain (standing l) ds))
 end-state = end-from
+
+-- a record that keeps the state rules and is never reached: automatic, with nothing kept
+pub never-reached : valid (atLimit 0 (fine 900 0)) ≡ true
+unfolding valid inTable rows
+never-reached = refl

@@ -4,16 +4,20 @@
 use Prim.Native.Nat.{ℕ, _+_, _<_, _≤_}
 use mathlib.Core.Path.{_≡_, refl, _∙_}
 use mathlib.Core.Bool.{true, false}
-use mathlib.Core.List.{List, [], _++_, map}
+use mathlib.Core.List.{List, [], _∷_, _++_, map}
 use native.Mathlib.Omega.{arith}
 use lib.IntN.{ℤ, pos}
 use lib.ListN.{length, drop, getD}
+use Rattle.whole.specs.Numbers.{inside}
 use Rattle.pid.specs.declared.record.Command.the-variants.{Sample}
 use Rattle.pid.specs.declared.record.Loop.{Loop}
 use Rattle.pid.specs.declared.replay.Replayed.{Replayed}
-use Rattle.pid.specs.Record.{inReach, valid}
-use Rattle.pid.specs.Walk.{after, each, handedBack, answered, kept, plain, standing}
-use Rattle.pid.specs.Replay.{numbered, outputsIn, firstBad, numbersLeft, replayRefusal, replayedOf, writtenOf}
+use Rattle.pid.specs.Settings.{rows, inTable}
+use Rattle.pid.specs.Record.{freshOf, inReach, inB, valid}
+use Rattle.pid.specs.Walk.{Answer, after, each, handedBack, answered, kept, plain, standing}
+use Rattle.pid.specs.Replay.{numbered, firstBad, numbersLeft, replayRefusal, replayedOf, writtenOf}
+use Rattle.pid.specs.Bench.{settingsC}
+use Rattle.pid.proofs.Sound.{holds-of}
 use Rattle.pid.proofs.Served.{all-valid}
 use Rattle.pid.proofs.Turns.{good-before, bad-at-place, all-good}
 use Rattle.pid.proofs.Replays.{all-kept}
@@ -23,7 +27,7 @@ use Rattle.pid.proofs.Sent.{outputs-length, by-code, front-later, front
 -- a replay that is not refused: the record and the outputs are those of single deliveries
 pub as-delivered : (l : Loop) (first : ℕ) (samples out : List ℤ) → replayRefusal l first samples (length out) ≡ 0 →
     (replayedOf l first samples (length out) ≡ record { code = 0; place = 0; count = length samples; state = after handedBack l (numbered first samples) })
-    × (writtenOf l first samples out ≡ outputsIn (each handedBack answered l (numbered first samples)) ++ drop (length samples) out)
+    × (writtenOf l first samples out ≡ map (λ (a : Answer ℤ). a .output) (each handedBack answered l (numbered first samples)) ++ drop (length samples) out)
 as-delivered l first samples out e =
     (replayed-as l first samples (length out) 0 e, written-as l first samples out 0 e ∙ rw (outputs-length l first samples))
 
@@ -97,7 +101,7 @@ sent-again l first samples out again e h =
 -- "No samples: done, nothing changes."
 pub no-samples : (l : Loop) (out : List ℤ) → valid l ≡ true →
     (replayedOf l (l .number + 1) [] (length out) ≡ record { code = 0; place = 0; count = 0; state = l }) × (writtenOf l (l .number + 1) [] out ≡ out)
-unfolding after each numbered outputsIn
+unfolding after each numbered
 no-samples l out v =
     let n = l .number + 1 in
     let o = code-0 l n [] (length out) v (omega arith) (omega arith) (omega arith) (omega arith) (omega arith) in
@@ -109,7 +113,24 @@ pub last-number : (l : Loop) (first : ℕ) (samples out : List ℤ) → valid l 
 last-number l first samples out v e h =
     replayed-as l first samples (length out) 1 (code-1 l first samples (length out) v (omega arith))
 
--- DEMAND 1: the record that comes back keeps the state rules, power within lo..hi and the integral within ±B
-pub replayed-valid : (l : Loop) (first : ℕ) (samples out : List ℤ) → valid l ≡ true → valid (replayedOf l first samples (length out) .state) ≡ true
-replayed-valid l first samples out v =
+-- DEMAND 1, of replay: the record that comes back keeps the state rules, power lies within lo..hi, the integral within ±B
+pub again-valid : (l : Loop) (first : ℕ) (samples out : List ℤ) → valid l ≡ true → valid (replayedOf l first samples (length out) .state) ≡ true
+again-valid l first samples out v =
     by-code l first samples out (λ (r : Replayed) (o : List ℤ). valid (r .state) ≡ true) (λ _. all-valid l (numbered first samples) v) (λ _ _ _. v)
+
+pub power-within : (l : Loop) (first : ℕ) (samples out : List ℤ) → valid l ≡ true →
+    inside
+    (replayedOf l first samples (length out) .state .settings .lo)
+    (replayedOf l first samples (length out) .state .settings .hi)
+    (replayedOf l first samples (length out) .state .u)
+    ≡ true
+power-within l first samples out v = holds-of (replayedOf l first samples (length out) .state) (again-valid l first samples out v) .u
+
+pub integral-within : (l : Loop) (first : ℕ) (samples out : List ℤ) → valid l ≡ true →
+    inB (replayedOf l first samples (length out) .state .integral) ≡ true
+integral-within l first samples out v = holds-of (replayedOf l first samples (length out) .state) (again-valid l first samples out v) .integral
+
+-- a replay that is not refused
+pub taken-C : replayRefusal (freshOf settingsC) 1 (pos 480 ∷ []) 1 ≡ 0
+unfolding replayRefusal firstBad valid inTable rows
+taken-C = refl
