@@ -12,7 +12,8 @@ use Rattle.pid.specs.declared.settings.Settings.{Settings}
 use Rattle.pid.specs.Settings.{sets, rows, allIn, settingsRefusal}
 use Rattle.pid.specs.Bench.{settingsC}
 use Rattle.text.specs.declared.reader.Reading.{Reading}
-use Rattle.text.specs.Decimal.{isDecimal, numberOf, decimal}
+use Rattle.text.specs.declared.decimal.Decimal.the-variants.{Is}
+use Rattle.text.specs.Decimal.{isDecimal, numberOf, decimalOf, decimal}
 use Rattle.text.specs.Lines.{linesOf, textOf}
 use Rattle.text.specs.Reader.{refused, readText}
 use Rattle.text.specs.Writer.{writtenOf, bufferAfter}
@@ -86,3 +87,7 @@ decimal-exactly w = (
   λ e. let t = read-decimal w e in (numberOf w, t .small, sym (t .same)),
   λ p. ap isDecimal (p .2) ∙ decimal-read (p .0) (p .1) .form,
 )
+
+-- And it is read as that number.
+pub decimal-back : (z : ℤ) → natAbs z < 10 ^ 7 → decimalOf (decimal z) ≡ Is z
+decimal-back z h = let r = decimal-read z h in rw (r .form, r .number)

@@ -1,0 +1,64 @@
+-- The loop's invariant: i is at most 26, and n at most i.
+use Prim.Native.Nat.{_-_, _≤_}
+use mathlib.Core.Logic.{⊎-elim}
+use native.Mathlib.Omega.{arith}
+use borrow.Author.Needs.{needs}
+use Rattle.text_cases.proofs.beside.Statement.{statement}
+use Rattle.text_cases.proofs.beside.Tie as tie
+
+abbrev Inv-loop : tie.InvT-loop
+Inv-loop name bytes r values n₀ i₀ n i = (i ≤ 26) × (n ≤ i)
+
+abbrev μ-loop : tie.MeasureT-loop
+μ-loop name bytes r values n₀ i₀ n i = 26 - i
+
+read-settings-requires : tie.Need-read-settings-requires Inv-loop μ-loop
+read-settings-requires c κs = search needs
+
+values-requires : tie.Need-values-requires Inv-loop μ-loop
+values-requires c κs = search needs
+
+loop-holds : tie.Need-loop-holds Inv-loop μ-loop
+loop-holds c = omega arith
+
+mul-if1 : tie.Need-mul-if1 Inv-loop μ-loop
+mul-if1 c = omega arith
+
+array-copy-out-if1 : tie.Need-array-copy-out-if1 Inv-loop μ-loop
+array-copy-out-if1 c = search needs
+
+add-n : tie.Need-add-n Inv-loop μ-loop
+add-n c = omega arith
+
+add-i : tie.Need-add-i Inv-loop μ-loop
+add-i c = omega arith
+
+loop-less : tie.Need-loop-less Inv-loop μ-loop
+loop-less c = omega arith
+
+loop-again : tie.Need-loop-again Inv-loop μ-loop
+loop-again c = ⊎-elim (λ w. omega arith) (λ w. omega arith) (c .if1 .came)
+
+say-requires : tie.Need-say-requires Inv-loop μ-loop
+say-requires c κs = search needs
+
+returns : tie.Need-returns Inv-loop μ-loop
+returns c = search needs
+
+pub beside-spec : {M : Type 1} → statement M
+beside-spec =
+    tie.close
+    (tie.spec
+    Inv-loop
+    μ-loop
+    read-settings-requires
+    values-requires
+    loop-holds
+    mul-if1
+    array-copy-out-if1
+    add-n
+    add-i
+    loop-less
+    loop-again
+    say-requires
+    returns)

@@ -1,0 +1,91 @@
+-- The loop's measure: what is left of the list.
+use native.Mathlib.Omega.{arith}
+use lib.ListN.{length}
+use borrow.Author.Needs.{needs}
+use Rattle.text_cases.proofs.cases.Statement.{statement}
+use Rattle.text_cases.proofs.cases.Tie as tie
+
+abbrev Inv-loop : tie.InvT-loop
+Inv-loop cut list rest₀ rest = Unit {0}
+
+abbrev μ-loop : tie.MeasureT-loop
+μ-loop cut list rest₀ rest = length rest
+
+loop-holds : tie.Need-loop-holds Inv-loop μ-loop
+loop-holds c = tt
+
+after-requires : tie.Need-after-requires Inv-loop μ-loop
+after-requires c κs = search needs
+
+after-requires-2 : tie.Need-after-requires-2 Inv-loop μ-loop
+after-requires-2 c κs = search needs
+
+field-requires : tie.Need-field-requires Inv-loop μ-loop
+field-requires c κs = search needs
+
+number-requires : tie.Need-number-requires Inv-loop μ-loop
+number-requires c κs = search needs
+
+field-requires-2 : tie.Need-field-requires-2 Inv-loop μ-loop
+field-requires-2 c κs = search needs
+
+field-requires-3 : tie.Need-field-requires-3 Inv-loop μ-loop
+field-requires-3 c κs = search needs
+
+before-requires : tie.Need-before-requires Inv-loop μ-loop
+before-requires c κs = search needs
+
+read-made-requires : tie.Need-read-made-requires Inv-loop μ-loop
+read-made-requires c κs = search needs
+
+field-requires-4 : tie.Need-field-requires-4 Inv-loop μ-loop
+field-requires-4 c κs = search needs
+
+field-requires-5 : tie.Need-field-requires-5 Inv-loop μ-loop
+field-requires-5 c κs = search needs
+
+changed-requires : tie.Need-changed-requires Inv-loop μ-loop
+changed-requires c κs = search needs
+
+read-made-requires-2 : tie.Need-read-made-requires-2 Inv-loop μ-loop
+read-made-requires-2 c κs = search needs
+
+after-requires-3 : tie.Need-after-requires-3 Inv-loop μ-loop
+after-requires-3 c κs = search needs
+
+returns : tie.Need-returns Inv-loop μ-loop
+returns c = search needs
+
+loop-less : tie.Need-loop-less Inv-loop μ-loop
+loop-less c = omega arith
+
+loop-again : tie.Need-loop-again Inv-loop μ-loop
+loop-again c = tt
+
+returns-2 : tie.Need-returns-2 Inv-loop μ-loop
+returns-2 c = search needs
+
+pub cases-spec : {M : Type 1} → statement M
+cases-spec =
+    tie.close
+    (tie.spec
+    Inv-loop
+    μ-loop
+    loop-holds
+    after-requires
+    after-requires-2
+    field-requires
+    number-requires
+    field-requires-2
+    field-requires-3
+    before-requires
+    read-made-requires
+    field-requires-4
+    field-requires-5
+    changed-requires
+    read-made-requires-2
+    after-requires-3
+    returns
+    loop-less
+    loop-again
+    returns-2)

@@ -1,0 +1,472 @@
+// Runs the reader, the writer and one decimal on cases whose answers 01 fixes. Each case writes a line: its name, the code,
+// then the reader's line or the writer's length. The file stdout has what 01 says.
+ghost use Prim.Native.Nat.{_≤_};
+ghost use lib.ListN.{length};
+use libc::STDOUT_FILENO;
+use pid::settings::Settings;
+use text::decimal::Decimal;
+use text::decimal::Shown;
+
+// ---- texts that are put together
+
+// The whole text of settings C.
+const C: [u8; 230] = *b"action=0\nlo=0\nhi=1000\nout=100\nsp=500\nrate=50\n\
+      kp0=65536\nki0=16384\nkd0=0\nalpha0=65536\nkt0=0\n\
+      kp1=131072\nki1=16384\nkd1=65536\nalpha1=32768\nkt1=0\n\
+      kp2=65536\nki2=16384\nkd2=0\nalpha2=65536\nkt2=32768\n\
+      kp3=32768\nki3=0\nkd3=0\nalpha3=65536\nkt3=0\n";
+
+// The longest text.
+const LONGEST: [u8; 306] =
+    *b"action=1\nlo=-1000000\nhi=1000000\nout=-1000000\nsp=-1000000\nrate=2000000\n\
+      kp0=4194304\nki0=4194304\nkd0=4194304\nalpha0=65536\nkt0=65536\n\
+      kp1=4194304\nki1=4194304\nkd1=4194304\nalpha1=65536\nkt1=65536\n\
+      kp2=4194304\nki2=4194304\nkd2=4194304\nalpha2=65536\nkt2=65536\n\
+      kp3=4194304\nki3=4194304\nkd3=4194304\nalpha3=65536\nkt3=65536\n";
+
+// The same with hi = lo, of 307 bytes, and a byte more.
+const LONGER: [u8; 308] =
+    *b"action=1\nlo=-1000000\nhi=-1000000\nout=-1000000\nsp=-1000000\nrate=2000000\n\
+      kp0=4194304\nki0=4194304\nkd0=4194304\nalpha0=65536\nkt0=65536\n\
+      kp1=4194304\nki1=4194304\nkd1=4194304\nalpha1=65536\nkt1=65536\n\
+      kp2=4194304\nki2=4194304\nkd2=4194304\nalpha2=65536\nkt2=65536\n\
+      kp3=4194304\nki3=4194304\nkd3=4194304\nalpha3=65536\nkt3=65536\nx";
+
+struct Made {
+    bytes: [u8; 1024],
+    len: usize,
+}
+
+// The place where part n begins, counted from 1, of parts that a byte ends; the length where there is no such part.
+fn start_of(s: &[u8], byte: u8, n: usize) -> usize
+    ensures { λ r. ⌜ r ≤ length (now (s .entry)) ⌝ }
+{
+    let mut part: usize = 1;
+    let mut i: usize = 0;
+    while i < s.len() {
+        if n <= part {
+            return i;
+        }
+        if s[i] == byte {
+            part += 1;
+        }
+        i += 1;
+    }
+    i
+}
+
+impl Made {
+    fn empty() -> Made {
+        Made {
+            bytes: [0; 1024],
+            len: 0,
+        }
+    }
+
+    // As much of more as there is room for, after what is there.
+    fn with(self, more: &[u8]) -> Made {
+        let mut bytes = self.bytes;
+        let mut len = self.len;
+        let mut i: usize = 0;
+        while i < more.len() {
+            if len < 1024 {
+                bytes[len] = more[i];
+                len += 1;
+            }
+            i += 1;
+        }
+        Made { bytes, len }
+    }
+
+    // Settings C up to line n, and then other bytes.
+    fn before(n: usize, new: &[u8]) -> Made {
+        let c = C;
+        let a = start_of(&c, b'\n', n);
+        Made::empty().with(&c[0..a]).with(new)
+    }
+
+    // Settings C with other bytes in the place of line n.
+    fn changed(n: usize, new: &[u8]) -> Made {
+        let c = C;
+        let a = start_of(&c, b'\n', n);
+        let rest = &c[a..];
+        let z = start_of(rest, b'\n', 2);
+        Made::before(n, new).with(&rest[z..])
+    }
+}
+
+// ---- the reader
+
+fn say(name: &[u8], code: u8, n: usize) {
+    io::write_all(STDOUT_FILENO, name);
+    io::write_all(STDOUT_FILENO, b" ");
+    io::print_decimal(STDOUT_FILENO, code as u64);
+    io::write_all(STDOUT_FILENO, b" ");
+    io::print_decimal(STDOUT_FILENO, n as u64);
+    io::write_all(STDOUT_FILENO, b"\n");
+}
+
+fn read(name: &[u8], bytes: &[u8]) {
+    let r = text::reader::read_settings(bytes);
+    say(name, r.code, r.line);
+}
+
+fn read_made(name: &[u8], made: Made) {
+    let bytes = made.bytes;
+    let len = made.len;
+    if len <= 1024 {
+        read(name, &bytes[0..len]);
+    }
+}
+
+// ---- cases, each a name, a line and bytes, with a bar after each
+
+fn field(s: &[u8]) -> &[u8] {
+    let n = start_of(s, b'|', 2);
+    if n < 1 {
+        return s;
+    }
+    &s[0..n - 1]
+}
+
+fn after(s: &[u8]) -> &[u8] {
+    let n = start_of(s, b'|', 2);
+    &s[n..]
+}
+
+// A line is given by two digits.
+fn number(word: &[u8]) -> usize {
+    if word.len() < 2 {
+        return 0;
+    }
+    (word[0] % 48) as usize * 10 + (word[1] % 48) as usize
+}
+
+// Reads, for each case, settings C with the case's bytes in the place of its line; or, where cut, C up to that line and then
+// the case's bytes.
+fn cases(cut: bool, list: &[u8]) {
+    let mut rest = list;
+    while 0 < rest.len() {
+        let line = after(rest);
+        let bytes = after(line);
+        let n = number(field(line));
+        if cut {
+            read_made(field(rest), Made::before(n, field(bytes)));
+        } else {
+            read_made(field(rest), Made::changed(n, field(bytes)));
+        }
+        let next = after(bytes);
+        if rest.len() <= next.len() {
+            return;
+        }
+        rest = next;
+    }
+}
+
+// "Text that stops early is 14 at the line where it stops."
+fn early() {
+    read(b"empty", b"");
+    read(b"one-line-feed", b"\n");
+    read(b"one-byte", b"a");
+    cases(
+        true,
+        b"stops-after-line-5|06||\
+          stops-after-line-1|02||\
+          stops-after-line-25|26||\
+          stops-in-a-key|06|rat|\
+          stops-after-a-key|06|rate|\
+          stops-after-an-equals-sign|06|rate=|\
+          stops-after-a-value|06|rate=50|",
+    );
+    cases(
+        false,
+        b"no-last-line-feed|26|kt3=0|\
+          no-last-line-feed-and-too-large|26|kt3=9999999|",
+    );
+}
+
+// Lines of wrong form: 14.
+fn forms() {
+    cases(
+        false,
+        b"crlf|01|action=0\r\n|\
+          crlf-on-the-last-line|26|kt3=0\r\n|\
+          carriage-return-for-line-feed|03|hi=1000\r|\
+          space-before-the-key|03| hi=1000\n|\
+          space-after-the-key|03|hi =1000\n|\
+          space-before-the-value|03|hi= 1000\n|\
+          space-after-the-value|03|hi=1000 \n|\
+          tab|03|hi=\t1000\n|\
+          empty-line|03|\nhi=1000\n|\
+          no-equals-sign|03|hi1000\n|\
+          two-equals-signs|03|hi==1000\n|\
+          capital-key|03|HI=1000\n|\
+          longer-key|03|hix=1000\n|\
+          shorter-key|03|h=1000\n|\
+          no-key|03|=1000\n|\
+          zero-byte|03|hi=1000\0\n|\
+          byte-255-in-a-value|03|hi=1\xff00\n|\
+          byte-176-in-a-value|03|hi=1\xb000\n|\
+          byte-232-in-a-key|03|\xe8i=1000\n|\
+          byte-order-mark|01|\xef\xbb\xbfaction=0\n|",
+    );
+}
+
+// Values of wrong form: 14.
+fn values() {
+    cases(
+        false,
+        b"no-value|03|hi=\n|\
+          minus-alone|03|hi=-\n|\
+          two-minus-signs|03|hi=--1\n|\
+          minus-at-the-end|03|hi=1-\n|\
+          plus-sign|03|hi=+1000\n|\
+          minus-zero|02|lo=-0\n|\
+          two-zeros|02|lo=00\n|\
+          leading-zero|03|hi=01000\n|\
+          leading-zero-after-a-minus|02|lo=-01\n|\
+          seven-zeros|02|lo=0000000\n|\
+          eight-digits|03|hi=10000000\n|\
+          eight-digits-after-a-minus|02|lo=-10000000\n|\
+          twenty-digits|03|hi=18446744073709552616\n|\
+          a-letter|03|hi=1e3\n|\
+          a-point|03|hi=1000.0\n|\
+          a-separator|03|hi=1_000\n|\
+          byte-before-0|03|hi=1/\n|\
+          byte-after-9|03|hi=1:\n|",
+    );
+}
+
+// Values outside their ranges: 15; and at the ends of their ranges: 0.
+fn ranges() {
+    cases(
+        false,
+        b"seven-digits-too-large|03|hi=9999999\n|\
+          seven-digits-too-small|02|lo=-9999999\n|\
+          hi-1000000|03|hi=1000000\n|\
+          hi-1000001|03|hi=1000001\n|\
+          lo-minus-1000000|02|lo=-1000000\n|\
+          lo-minus-1000001|02|lo=-1000001\n|\
+          action-1|01|action=1\n|\
+          action-2|01|action=2\n|\
+          action-minus-1|01|action=-1\n|\
+          out-1000001|04|out=1000001\n|\
+          sp-minus-1000001|05|sp=-1000001\n|\
+          rate-0|06|rate=0\n|\
+          rate-1|06|rate=1\n|\
+          rate-2000000|06|rate=2000000\n|\
+          rate-2000001|06|rate=2000001\n|\
+          kp0-4194304|07|kp0=4194304\n|\
+          kp0-4194305|07|kp0=4194305\n|\
+          ki1-minus-1|13|ki1=-1\n|\
+          alpha2-0|20|alpha2=0\n|\
+          alpha2-1|20|alpha2=1\n|\
+          alpha2-65537|20|alpha2=65537\n|\
+          kt3-65536|26|kt3=65536\n|\
+          kt3-65537|26|kt3=65537\n|",
+    );
+}
+
+// The order of the tests: lines in order, 14 before 15 in each, then 17, then 16.
+fn orders() {
+    cases(
+        true,
+        b"15-on-line-2-14-on-line-3|02|lo=9999999\nhi=\n|\
+          14-on-line-2-15-on-line-3|02|lo=\nhi=9999999\n|\
+          keys-in-another-order|02|hi=1000\nlo=0\nout=100\n|",
+    );
+    cases(
+        false,
+        b"too-large-and-a-space|03|hi=9999999 \n|\
+          a-line-twice|07|kp0=65536\nkp0=65536\n|\
+          a-line-left-out|07||\
+          lo-is-hi|03|hi=0\n|\
+          lo-above-hi|03|hi=-1\n|\
+          out-below-lo|04|out=-1\n|\
+          out-is-lo|04|out=0\n|\
+          out-is-hi|04|out=1000\n|\
+          out-above-hi|04|out=1001\n|\
+          a-byte-after-the-last-line|26|kt3=0\nx|\
+          a-line-feed-after-the-last-line|26|kt3=0\n\n|\
+          a-line-after-the-last-line|26|kt3=0\nkp4=0\n|",
+    );
+}
+
+// 306 bytes are accepted, 307 have lo = hi, and a byte more comes before that.
+fn lengths() {
+    let longest = LONGEST;
+    let longer = LONGER;
+    let many = [b'a'; 4096];
+    read(b"306-bytes", &longest);
+    read(b"307-bytes", &longer[..307]);
+    read(b"308-bytes", &longer);
+    read(b"305-of-306-bytes", &longest[..305]);
+    read(b"4096-bytes-and-no-line-feed", &many);
+}
+
+// ---- the writer
+
+// How many bytes at the end are still x.
+fn kept(buffer: &[u8; 400]) -> usize {
+    let mut n: usize = 0;
+    while n < 400 {
+        if buffer[399 - n] != b'x' {
+            return n;
+        }
+        n += 1;
+    }
+    n
+}
+
+// Writes into the first bytes of 400 that are all x, and says how many at the end stayed so. The line feed that ends a text
+// is no x, so this counts the bytes after it.
+fn write(name: &[u8], s: Settings, room: usize) {
+    let mut buffer = [b'x'; 400];
+    if room <= 400 {
+        let w = text::writer::write_settings(s, &mut buffer[0..room]);
+        say(name, w.code, w.len);
+        say(b"  bytes-kept", w.code, kept(&buffer));
+    }
+}
+
+fn settings_of(bytes: &[u8]) -> Settings {
+    text::reader::read_settings(bytes).settings
+}
+
+// 18 for a buffer shorter than the text; else the length, and every byte after the text stays.
+fn rooms() {
+    let c = C;
+    let longest = LONGEST;
+    let s = settings_of(&c);
+    let l = settings_of(&longest);
+    write(b"c-in-400-bytes", s, 400);
+    write(b"c-in-230-bytes", s, 230);
+    write(b"c-in-229-bytes", s, 229);
+    write(b"c-in-0-bytes", s, 0);
+    write(b"longest-in-400-bytes", l, 400);
+    write(b"longest-in-306-bytes", l, 306);
+    write(b"longest-in-305-bytes", l, 305);
+}
+
+// 11, then 16, then 18.
+fn wrongs() {
+    let c = C;
+    let s = settings_of(&c);
+    let mut high = s;
+    high.hi = 1000001;
+    let mut low = s;
+    low.lo = -2147483648;
+    let mut equal = s;
+    equal.hi = 0;
+    let mut out = s;
+    out.out = 1001;
+    let mut slow = equal;
+    slow.rate = 0;
+    write(b"write-hi-1000001", high, 400);
+    write(b"write-lo-least-of-32-bits", low, 400);
+    write(b"write-lo-is-hi", equal, 400);
+    write(b"write-out-above-hi", out, 400);
+    write(b"write-rate-0-and-lo-is-hi", slow, 400);
+    write(b"write-rate-0-and-0-bytes", slow, 0);
+    write(b"write-lo-is-hi-and-0-bytes", equal, 0);
+    write(b"write-blank", Settings::blank(), 400);
+}
+
+// ---- there and back
+
+// Reads a text and writes it again: the code and length, or 99 where the bytes are others.
+fn again(name: &[u8], bytes: &[u8]) {
+    let mut buffer = [b'x'; 400];
+    let w = text::writer::write_settings(settings_of(bytes), &mut buffer);
+    let n = w.len;
+    if n <= 400 {
+        if check::same(&buffer[0..n], bytes) {
+            say(name, w.code, n);
+            return;
+        }
+    }
+    say(name, 99, n);
+}
+
+// How many of the values beside a code are not zero.
+fn beside(name: &[u8], bytes: &[u8]) {
+    let r = text::reader::read_settings(bytes);
+    let values = r.settings.values();
+    let mut n: usize = 0;
+    let mut i: usize = 0;
+    while i < 26 {
+        if values[i] != 0 {
+            n += 1;
+        }
+        i += 1;
+    }
+    say(name, r.code, n);
+}
+
+fn trips() {
+    let c = C;
+    let longest = LONGEST;
+    let longer = LONGER;
+    again(b"c-again", &c);
+    again(b"longest-again", &longest);
+    beside(b"values-of-c", &c);
+    beside(b"values-of-longest", &longest);
+    beside(b"values-beside-16", &longer[..307]);
+    beside(b"values-beside-17", &longer);
+    beside(b"values-beside-14", &longest[..305]);
+}
+
+// ---- one decimal
+
+// The word, and the number that it is read as, or wrong.
+fn decimal(word: &[u8]) {
+    io::write_all(STDOUT_FILENO, word);
+    let d = Decimal::of(word);
+    match d {
+        Decimal::Wrong => {
+            io::write_all(STDOUT_FILENO, b" is wrong\n");
+        }
+        Decimal::Is(x) => {
+            io::write_all(STDOUT_FILENO, b" is ");
+            show(x);
+        }
+    }
+}
+
+fn show(x: i32) {
+    let s = Shown::of(x);
+    let bytes = s.bytes;
+    let from = s.from;
+    if from <= 11 {
+        io::write_all(STDOUT_FILENO, &bytes[from..]);
+    }
+    io::write_all(STDOUT_FILENO, b"\n");
+}
+
+fn decimals() {
+    decimal(b"");
+    decimal(b"0");
+    decimal(b"-7");
+    decimal(b"9999999");
+    decimal(b"-9999999");
+    decimal(b"10000000");
+    decimal(b"-0");
+    decimal(b"01");
+    show(-1);
+    show(10);
+    show(2147483647);
+    show(-2147483648);
+}
+
+fn main() {
+    early();
+    forms();
+    values();
+    ranges();
+    orders();
+    lengths();
+    rooms();
+    wrongs();
+    trips();
+    decimals();
+}

@@ -1,0 +1,90 @@
+//! The proved program `oven` against the peer: every byte that it writes.
+
+mod common;
+
+use common::{for_each_seed, same, Program};
+use host::rng::Rng;
+use host::{example, gen, oven, text};
+
+fn oven_agrees(program: &Program, settings: &[u8], samples: &[u8]) {
+    same("oven", &program.run(settings, samples), &oven::run(settings, samples));
+}
+
+#[test]
+fn the_example_of_01() {
+    assert_eq!(
+        Program::new("oven").run(example::C.as_bytes(), b"480\n480\n478\n"),
+        b"100\n105\n113\n"
+    );
+}
+
+#[test]
+fn the_readings_of_the_program() {
+    let program = Program::new("oven");
+    for samples in [
+        "",
+        "480\n480\nx\n",
+        "480\n1000001\nx\n",
+        "480\n480",
+        "\n",
+        "480\r\n",
+        "-0\n",
+        "01\n",
+        "00000001\n",
+        "12345678\n",
+    ] {
+        oven_agrees(&program, example::C.as_bytes(), samples.as_bytes());
+    }
+}
+
+#[test]
+fn damaged_settings_are_refused_alike() {
+    let program = Program::new("oven");
+    for_each_seed(2_000, |rng| {
+        let settings = gen::settings(rng);
+        let damaged = gen::damaged(rng, text::lines_of(&settings).as_bytes());
+        oven_agrees(&program, &damaged, b"0\n1\n");
+    });
+}
+
+#[test]
+fn sample_files_are_answered_alike() {
+    let program = Program::new("oven");
+    for_each_seed(500, |rng| {
+        let settings = gen::settings(rng);
+        // one in twenty-five is longer than 64 KiB, and its lines lie across every cut
+        let count = if rng.one_in(25) { 15_000 } else { rng.below(400) };
+        let samples = gen::samples(rng, &settings, count);
+        let file = if rng.one_in(3) {
+            gen::spoiled_sample_file(rng, &samples)
+        } else {
+            gen::sample_file(&samples)
+        };
+        oven_agrees(&program, text::lines_of(&settings).as_bytes(), &file);
+    });
+}
+
+#[test]
+fn a_day_of_samples_is_answered_alike() {
+    let program = Program::new("oven");
+    let settings = example::settings();
+    let samples = gen::samples(&mut Rng::new(864), &settings, 864_000);
+    oven_agrees(&program, text::lines_of(&settings).as_bytes(), &gen::sample_file(&samples));
+}
+
+#[test]
+fn what_is_missing_is_told_on_standard_error() {
+    let program = Program::new("oven");
+    let usage = program.command().output().expect("the program runs");
+    assert!(
+        usage.stdout.is_empty() && String::from_utf8_lossy(&usage.stderr).contains("usage"),
+        "no usage"
+    );
+    let absent = program.folder.join("absent");
+    let ran = program.command().args([&absent, &absent]).output().expect("the program runs");
+    let told = String::from_utf8_lossy(&ran.stderr).into_owned();
+    assert!(
+        ran.stdout.is_empty() && told.contains("absent") && told.contains("No such file"),
+        "it says {told}"
+    );
+}
