@@ -3,4 +3,5 @@ mod Steps
 mod Pieces
 mod Starts
 mod Keeps
+mod Numbers
 pub mod promises

@@ -5,16 +5,22 @@ use mathlib.Core.Bool.{Bool, true, false, cond, _||_}
 use mathlib.Core.List.{List, [], _∷_, _++_}
 use lib.Dec.{eqb, ltb, leb}
 use lib.ListN.{length, take, drop}
+use Rattle.pid.specs.declared.record.Loop.{Loop}
 use Rattle.stream.specs.declared.run.Run.{Run}
 use Rattle.stream.specs.declared.feed.Ran.{Ran}
-use Rattle.stream.specs.Run.{Step, lineRoom, lineMost, refusing, wordOf, lineStep, keeping}
+use Rattle.stream.specs.Run.{Step, Judged, lineRoom, lineMost, refusing, wordOf, lineStep, keeping}
 use Rattle.stream.specs.Oven.{sampleLine}
+use Rattle.stream.specs.Journal.{journalLine}
 
 -- ---- one byte
 
+-- a line is a delivery for the journal, else a sample
+abbrev pub judgedBy : Bool → Loop → List ℕ → Judged
+judgedBy journal l w = cond journal (journalLine l w) (sampleLine l w)
+
 -- a line feed (byte 10) ends the line under way
 unfoldable pub judging : Run → Step
-judging r = cond (ltb lineMost (r .len)) (refusing r 14) (lineStep r (sampleLine (r .state) (wordOf r)))
+judging r = cond (ltb lineMost (r .len)) (refusing r 14) (lineStep r (judgedBy (r .journal) (r .state) (wordOf r)))
 
 -- nothing, where the run has ended
 abbrev pub idle : Run → Step

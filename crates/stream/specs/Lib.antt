@@ -1,4 +1,6 @@
 pub mod Run
 pub mod Oven
+pub mod Number
+pub mod Journal
 pub mod Feed
 pub mod Start

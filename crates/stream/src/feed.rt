@@ -24,6 +24,9 @@ impl Run {
         if 80 < self.len {
             return self.refuse(14, out, at);
         }
+        if self.journal {
+            return self.journal_line(out, at);
+        }
         self.sample_line(out, at)
     }
 

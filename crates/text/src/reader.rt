@@ -33,7 +33,7 @@ fn line_end(rest: &[u8]) -> usize
     i
 }
 
-fn begins(key: &[u8], line: &[u8]) -> bool
+pub fn begins(key: &[u8], line: &[u8]) -> bool
     ensures { λ r. ⌜ r ≡ begins (now (key .entry)) (now (line .entry)) ⌝ }
 {
     let mut i: usize = 0;

@@ -15,12 +15,15 @@ use Rattle.pid.proofs.promises.Demand1.{made-valid}
 use Rattle.text.specs.Reader.{readText}
 use borrow.Author.Tests.{eq-eqb}
 use Rattle.text.specs.declared.decimal.Decimal.{Decimal}
-use Rattle.text.specs.declared.decimal.Decimal.the-variants.{Is, Wrong}
+use Rattle.text.specs.declared.decimal.Decimal.the-variants as decimal
 use Rattle.text.specs.Decimal.{decimalOf}
 use Rattle.stream.specs.declared.run.Run.{Run}
 use Rattle.stream.specs.Run.{Step, Judged, refused, answered, lineMost, lastNumber, wordOf, lineStep, keeping}
 use Rattle.stream.specs.Oven.{sampledOf, byAnswer, bySample, byDecimal, sampleLine}
-use Rattle.stream.specs.Feed.{judging, byteOf, after}
+use Rattle.stream.specs.declared.journal.Delivery.{Delivery}
+use Rattle.stream.specs.declared.journal.Delivery.the-variants.{Is, Wrong}
+use Rattle.stream.specs.Journal.{deliveryOf, byDelivery, journalLine}
+use Rattle.stream.specs.Feed.{judgedBy, judging, byteOf, after}
 use Rattle.stream.specs.Start.{firstLoop, begunBy, beginning}
 use Rattle.stream.proofs.Starts.{text-right}
 use Rattle.stream.proofs.Keeps.{delivered-valid}
@@ -35,10 +38,14 @@ Leaves (answered l text) = valid l ≡ true
 
 sample-leaves : (l : Loop) → valid l ≡ true → (d : Decimal) → Leaves (byDecimal l d)
 unfolding bySample byAnswer
-sample-leaves l v Wrong = tt
-sample-leaves l v (Is pv) =
+sample-leaves l v decimal.Wrong = tt
+sample-leaves l v (decimal.Is pv) =
     chosen Leaves (eqb (l .number) lastNumber) (λ _. tt)
     (λ _. chosen Leaves (eqb (sampledOf l pv .code) 0) (λ _. delivered-valid l _ (Sample pv) v) (λ _. tt))
+
+journal-leaves : (l : Loop) → valid l ≡ true → (w : List ℕ) (d : Delivery) → Leaves (byDelivery l w d)
+journal-leaves l v w Wrong = tt
+journal-leaves l v w (Is n c) = delivered-valid l n c v
 
 module _ (r : Run) (v : valid (r .state) ≡ true) where
   line-good : (j : Judged) → Leaves j → Good (lineStep r j)
@@ -46,10 +53,11 @@ module _ (r : Run) (v : valid (r .state) ≡ true) where
   line-good (answered l text) h = h
 
   judging-good : Good (judging r)
-  unfolding judging sampleLine
+  unfolding judging sampleLine journalLine
   judging-good =
       chosen Good (ltb lineMost (r .len)) (λ _. v)
-      (λ _. line-good (sampleLine (r .state) (wordOf r)) (sample-leaves (r .state) v (decimalOf (wordOf r))))
+      (λ _. line-good (judgedBy (r .journal) (r .state) (wordOf r))
+      (chosen Leaves (r .journal) (λ _. journal-leaves (r .state) v (wordOf r) (deliveryOf (wordOf r))) (λ _. sample-leaves (r .state) v (decimalOf (wordOf r)))))
 
   pub byte-valid : (b : ℕ) → valid (byteOf r b .run .state) ≡ true
   unfolding byteOf keeping

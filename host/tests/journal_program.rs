@@ -1,0 +1,113 @@
+//! The proved program `journal` against the peer: every byte that it writes.
+
+mod common;
+
+use common::{for_each_seed, same, Program};
+use host::delivery::Delivery;
+use host::law::Command;
+use host::{example, gen, journal, text};
+
+fn journal_agrees(program: &Program, settings: &[u8], deliveries: &[u8]) {
+    same("journal", &program.run(settings, deliveries), &journal::run(settings, deliveries));
+}
+
+#[test]
+fn the_bench_log() {
+    let rows = [
+        (1, Command::Sample(480)),
+        (2, Command::Automatic),
+        (3, Command::Sample(480)),
+        (4, Command::Sample(480)),
+        (4, Command::Sample(480)),
+        (4, Command::Sample(481)),
+        (6, Command::Sample(480)),
+        (5, Command::Sample(478)),
+        (6, Command::Set(1)),
+        (7, Command::Sample(476)),
+        (8, Command::Sample(476)),
+        (9, Command::Target { target: 800, rate: 50 }),
+        (10, Command::Sample(476)),
+        (11, Command::Put(50)),
+    ];
+    let deliveries: Vec<Delivery> =
+        rows.iter().map(|&(number, command)| Delivery { number, command }).collect();
+    let written =
+        Program::new("journal").run(example::C.as_bytes(), &gen::deliveries_file(&deliveries));
+    let answers: Vec<String> = String::from_utf8(written)
+        .expect("text")
+        .lines()
+        .map(|line| {
+            line.split(" code=")
+                .nth(1)
+                .expect("an answer")
+                .replace("output=", "")
+                .replace("last=", "")
+        })
+        .collect();
+    let expected = [
+        "0 100 1", "0 100 2", "0 100 3", "0 105 4", "0 105 4", "2 105 4", "3 105 4", "0 113 5",
+        "0 113 6", "0 113 7", "0 119 8", "0 119 9", "0 237 10", "6 237 10",
+    ];
+    assert_eq!(answers, expected);
+}
+
+#[test]
+fn random_deliveries_are_answered_alike() {
+    let program = Program::new("journal");
+    for_each_seed(500, |rng| {
+        let settings = gen::settings(rng);
+        let deliveries = gen::deliveries(rng, &settings, 420);
+        journal_agrees(
+            &program,
+            text::lines_of(&settings).as_bytes(),
+            &gen::deliveries_file(&deliveries),
+        );
+    });
+}
+
+#[test]
+fn spoiled_deliveries_are_answered_alike() {
+    let program = Program::new("journal");
+    for_each_seed(200, |rng| {
+        let settings = gen::settings(rng);
+        let deliveries = gen::deliveries(rng, &settings, 30);
+        journal_agrees(
+            &program,
+            text::lines_of(&settings).as_bytes(),
+            &gen::spoiled_deliveries_file(rng, &deliveries),
+        );
+    });
+    for line in gen::MALFORMED_DELIVERIES {
+        journal_agrees(&program, example::C.as_bytes(), line);
+    }
+}
+
+#[test]
+fn doubtful_settings_are_refused_alike() {
+    let program = Program::new("journal");
+    for_each_seed(200, |rng| {
+        let settings = gen::doubtful_settings(rng);
+        journal_agrees(
+            &program,
+            text::lines_of(&settings).as_bytes(),
+            b"number=1 command=hold value=0 second=0\n",
+        );
+    });
+}
+
+#[test]
+fn what_is_missing_is_told_on_standard_error() {
+    let program = Program::new("journal");
+    let usage = program.command().output().expect("the program runs");
+    assert!(
+        usage.stdout.is_empty() && String::from_utf8_lossy(&usage.stderr).contains("usage"),
+        "no usage"
+    );
+    let absent = program.folder.join("absent");
+    let ran = program.command().args([&absent, &absent]).output().expect("the program runs");
+    let told = String::from_utf8_lossy(&ran.stderr).into_owned();
+    assert!(
+        ran.stdout.is_empty() && told.contains("absent") && told.contains("No such file"),
+        "it says {told}"
+    );
+}
