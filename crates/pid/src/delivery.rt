@@ -77,6 +77,7 @@ impl Last {
 }
 
 impl Loop {
+    // Written out whole: the prover does not follow a store to a field that is an enum.
     pub(crate) fn remember(self, number: u32, c: Command) -> Loop
         ensures { λ r. ⌜ r ≡ remembering self number (Kept c) ⌝ }
     {
