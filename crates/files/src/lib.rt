@@ -79,7 +79,9 @@ fn lines(run: Run, path: &[u8]) {
         let mut out = io::buffer();
         let ran = last.run.finish(&mut out);
         let len = ran.len;
-        io::write_all(STDOUT_FILENO, &out[..len]);
+        if !io::write_all(STDOUT_FILENO, &out[..len]) {
+            os::fail(b"standard output");
+        }
     }
 }
 
@@ -89,7 +91,10 @@ fn start(journal: bool, settings: &[u8], path: &[u8]) {
     let ran = stream::start::begin(journal, settings, &mut out);
     let len = ran.len;
     let run = ran.run;
-    io::write_all(STDOUT_FILENO, &out[..len]);
+    if !io::write_all(STDOUT_FILENO, &out[..len]) {
+        os::fail(b"standard output");
+        return;
+    }
     if !run.ended {
         lines(run, path);
     }

@@ -1,4 +1,5 @@
 -- The theorems of the two programs.
 pub mod Cut
+pub mod Lines
 pub mod Valid
 pub mod Examples

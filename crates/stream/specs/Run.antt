@@ -102,6 +102,6 @@ keptOf r b = record {
   state = r .state;
 }
 
--- a byte of a line that is too long for any well-formed one: "a malformed sample line [..] is 14"
+-- a byte of the line under way; one past the room makes a line longer than any well-formed one: "malformed [..] is 14"
 unfoldable pub keeping : Run → ℕ → Step
 keeping r b = cond (ltb (r .len) lineMost) (record { run = keptOf r b; text = [] }) (refusing r 14)

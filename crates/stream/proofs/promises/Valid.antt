@@ -26,7 +26,7 @@ use Rattle.stream.specs.Journal.{deliveryOf, byDelivery, journalLine}
 use Rattle.stream.specs.Feed.{judgedBy, judging, byteOf, after}
 use Rattle.stream.specs.Start.{firstLoop, begunBy, beginning}
 use Rattle.stream.proofs.Starts.{text-right}
-use Rattle.stream.proofs.Keeps.{delivered-valid}
+use Rattle.pid.proofs.Served.{delivered-valid}
 
 abbrev Good : Step → Type 0
 Good s = valid (s .run .state) ≡ true
