@@ -74,17 +74,5 @@ fn a_day_of_samples_is_answered_alike() {
 
 #[test]
 fn what_is_missing_is_told_on_standard_error() {
-    let program = Program::new("oven");
-    let usage = program.command().output().expect("the program runs");
-    assert!(
-        usage.stdout.is_empty() && String::from_utf8_lossy(&usage.stderr).contains("usage"),
-        "no usage"
-    );
-    let absent = program.folder.join("absent");
-    let ran = program.command().args([&absent, &absent]).output().expect("the program runs");
-    let told = String::from_utf8_lossy(&ran.stderr).into_owned();
-    assert!(
-        ran.stdout.is_empty() && told.contains("absent") && told.contains("No such file"),
-        "it says {told}"
-    );
+    Program::new("oven").tells_what_is_missing();
 }

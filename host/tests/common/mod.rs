@@ -11,7 +11,7 @@ use std::thread;
 /// How a program is run, and a folder for its files.
 pub struct Program {
     words: Vec<String>,
-    pub folder: PathBuf,
+    folder: PathBuf,
 }
 
 impl Program {
@@ -36,7 +36,7 @@ impl Program {
         Program { words, folder }
     }
 
-    pub fn command(&self) -> process::Command {
+    fn command(&self) -> process::Command {
         let mut command = process::Command::new(&self.words[0]);
         command.args(&self.words[1..]);
         command
@@ -55,6 +55,21 @@ impl Program {
             std::fs::remove_file(path).expect("the file is there");
         }
         ran.stdout
+    }
+
+    /// A missing argument gets the usage, and a missing file its name and the reason, on standard error alone.
+    pub fn tells_what_is_missing(&self) {
+        let usage = self.command().output().expect("the program runs");
+        let told = String::from_utf8_lossy(&usage.stderr).into_owned();
+        assert!(
+            usage.stdout.is_empty() && told.contains("usage"),
+            "without arguments it says {told}"
+        );
+        let absent = self.folder.join("absent");
+        let ran = self.command().args([&absent, &absent]).output().expect("the program runs");
+        let told = String::from_utf8_lossy(&ran.stderr).into_owned();
+        let reason = told.contains("absent") && told.contains("No such file");
+        assert!(ran.stdout.is_empty() && reason, "without its files it says {told}");
     }
 }
 
