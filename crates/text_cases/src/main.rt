@@ -3,7 +3,7 @@
 ghost use Prim.Native.Nat.{_≤_};
 ghost use lib.ListN.{length};
 use libc::STDOUT_FILENO;
-use pid::settings::Settings;
+use settings::Settings;
 use text::decimal::Decimal;
 use text::decimal::Shown;
 
