@@ -82,7 +82,7 @@ sets-in-end gs k h = let n : sets - k ≡ 0 = omega arith in rw n
 -- ---- what the test says of each value
 
 -- of the value at a place
-all-at : (rs : List Row) (vs : List ℤ) → allIn rs vs ≡ true → (i : ℕ) → i < length rs → inRow (getD rs i noRow) (getD vs i (pos 0)) ≡ true
+pub all-at : (rs : List Row) (vs : List ℤ) → allIn rs vs ≡ true → (i : ℕ) → i < length rs → inRow (getD rs i noRow) (getD vs i (pos 0)) ≡ true
 all-at [] vs e i h = absurd (omega arith)
 all-at (r ∷ rs) [] e i h = never e
 all-at (r ∷ rs) (z ∷ vs) e zero h = both (inRow r z) (allIn rs vs) e .0

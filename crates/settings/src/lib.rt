@@ -1,9 +1,9 @@
 // The settings of a loop: their values by the place of their rows, and what is wrong with them.
 ghost use mathlib.Core.Path.{_≡_};
-ghost use Prim.Native.Nat.{_+_, _≤_};
+ghost use Prim.Native.Nat.{_+_, _<_, _≤_};
 ghost use lib.IntN.{pos};
 ghost use lib.ListN.{getD};
-ghost use Rattle.settings.specs.Table.{keys, lines};
+ghost use Rattle.settings.specs.Table.{heads, keys, lines};
 ghost use Rattle.settings.specs.Settings.{noGains, gainValues, gainsFrom, headValues, valuesOf, settingsOf, blankSettings, ordered, settingsRefusal};
 
 pub mod table;
@@ -66,18 +66,13 @@ impl Gains {
         }
     }
 
-    // Value j of the set, in the order of its rows; 0 past the last.
+    // Value j of the set, in the order of its rows.
     fn value(self, j: usize) -> i32
+        requires { ⌜ j < keys ⌝ }
         ensures { λ r. ⌜ r ≡ getD (gainValues self) j (pos 0) ⌝ }
     {
-        match j {
-            0 => self.kp,
-            1 => self.ki,
-            2 => self.kd,
-            3 => self.alpha,
-            4 => self.kt,
-            _ => 0,
-        }
+        let all = [self.kp, self.ki, self.kd, self.alpha, self.kt];
+        all[j]
     }
 
     // The gain set whose values begin at place at.
@@ -96,19 +91,13 @@ impl Gains {
 }
 
 impl Settings {
-    // Value i of those before the gain sets'; 0 past the last.
+    // Value i of those before the gain sets'.
     fn head(self, i: usize) -> i32
+        requires { ⌜ i < heads ⌝ }
         ensures { λ r. ⌜ r ≡ getD (headValues self) i (pos 0) ⌝ }
     {
-        match i {
-            0 => self.action,
-            1 => self.lo,
-            2 => self.hi,
-            3 => self.out,
-            4 => self.sp,
-            5 => self.rate,
-            _ => 0,
-        }
+        let all = [self.action, self.lo, self.hi, self.out, self.sp, self.rate];
+        all[i]
     }
 
     // The value of line i of the text, counted from 0; 0 past the last.

@@ -1,34 +1,25 @@
-use mathlib.Core.Path.{sym}
-use native.Mathlib.Omega.{arith}
-use lib.IntN.{pos}
-use lib.ListN.{List·getD-eq-default}
+use mathlib.Core.Path.{refl, ap, _∙_}
+use mathlib.Core.List.{List, []}
+use lib.IntN.{ℤ, pos}
+use lib.ListN.{getD}
 use mir.Facts.{toZ-ofZ}
-use Rattle.settings.specs.Settings.{headValues}
+use Rattle.whole.proofs.Bits.{cons-back}
+use Rattle.settings.proofs.Fit.{settings-fit}
 use borrow.Author.Needs.{needs}
 use Rattle.settings.proofs.Settings.head.Statement.{statement}
 use Rattle.settings.proofs.Settings.head.Tie as tie
 
+mul-result : tie.Need-mul-result
+mul-result c = search needs
+
+array-copy-out-result : tie.Need-array-copy-out-result
+array-copy-out-result c = search needs
+
 returns : tie.Need-returns
-returns c = rw (c .before .match .keys1) (toZ-ofZ (search needs))
-
-returns-2 : tie.Need-returns-2
-returns-2 c = rw (c .before .match .keys2) (toZ-ofZ (search needs))
-
-returns-3 : tie.Need-returns-3
-returns-3 c = rw (c .before .match .keys3) (toZ-ofZ (search needs))
-
-returns-4 : tie.Need-returns-4
-returns-4 c = rw (c .before .match .keys4) (toZ-ofZ (search needs))
-
-returns-5 : tie.Need-returns-5
-returns-5 c = rw (c .before .match .keys5) (toZ-ofZ (search needs))
-
-returns-6 : tie.Need-returns-6
-returns-6 c = rw (c .before .match .keys6) (toZ-ofZ (search needs))
-
-returns-7 : tie.Need-returns-7
-returns-7 c = sym (List·getD-eq-default (headValues (c .before .args .self)) (pos 0) {n = c .before .args .i} (omega (arith, c .match .rest)))
+returns c =
+    let a = c .before .before in
+    let f = settings-fit (a .args .self) (a .good .0) in
+    toZ-ofZ (search needs) ∙ ap (λ (vs : List ℤ). getD vs (a .args .i) (pos 0)) (cons-back (f .action) (cons-back (f .lo) (cons-back (f .hi) (cons-back (f .out) (cons-back (f .sp) (cons-back {vs = []} (f .rate) refl))))))
 
 pub head-spec : {M : Type 1} → statement M
-head-spec =
-    tie.close (tie.spec returns returns-2 returns-3 returns-4 returns-5 returns-6 returns-7)
+head-spec = tie.close (tie.spec mul-result array-copy-out-result returns)
