@@ -7,7 +7,7 @@ use Rattle.pid.specs.declared.command.Command.{Command}
 use Rattle.pid.specs.declared.command.Command.the-variants.{Sample, Hold, Put, Automatic, Target, Set}
 use Rattle.pid.specs.declared.record.Loop.{Loop}
 use Rattle.pid.specs.Units.{fine}
-use Rattle.pid.specs.SettingsC.{settingsC}
+use Rattle.settings.specs.SettingsC.{settingsC}
 use Rattle.pid.specs.Record.{freshOf}
 use Rattle.delivery.specs.declared.memory.Last.the-variants.{Kept}
 use Rattle.delivery.specs.declared.numbered.Numbered.{Numbered}

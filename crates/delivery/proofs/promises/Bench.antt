@@ -3,7 +3,7 @@ use mathlib.Core.Path.{_≡_, refl}
 use Rattle.settings.specs.Table.{rows}
 use Rattle.settings.specs.Settings.{inTable}
 use Rattle.pid.specs.Units.{rounded}
-use Rattle.pid.specs.SettingsC.{settingsC}
+use Rattle.settings.specs.SettingsC.{settingsC}
 use Rattle.pid.specs.Record.{freshOf, valid}
 use Rattle.pid.specs.Sample.{lesser, greater, limited, ramped, filtered, derivative, sensedOf, clamped, backCalculated, integrated, actedOf}
 use Rattle.pid.specs.Law.{sampleOf, stepOf, refusalOf}

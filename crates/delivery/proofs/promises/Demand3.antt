@@ -13,7 +13,7 @@ use Rattle.pid.specs.declared.command.Command.{Command}
 use Rattle.pid.specs.declared.command.Command.the-variants.{Sample, Automatic, Target, Set}
 use Rattle.pid.specs.declared.record.Loop.{Loop}
 use Rattle.pid.specs.Units.{rounded}
-use Rattle.pid.specs.SettingsC.{settingsC}
+use Rattle.settings.specs.SettingsC.{settingsC}
 use Rattle.pid.specs.Command.{same}
 use Rattle.pid.specs.Record.{freshOf, valid, madeOf as Loop·madeOf}
 use Rattle.pid.specs.Sample.{lesser, greater, limited, ramped, filtered, derivative, sensedOf, clamped, backCalculated, integrated, actedOf}

@@ -15,7 +15,7 @@ use Rattle.pid.specs.Record.{freshOf, valid}
 use Rattle.pid.specs.Law.{sampleOf, stepOf, refusalOf}
 use Rattle.pid.specs.Sequence.{after}
 use Rattle.pid.specs.Run.{obeyed, accepted, switches, between, unbroken, shares, samplesToTarget}
-use Rattle.pid.specs.SettingsC.{settingsC}
+use Rattle.settings.specs.SettingsC.{settingsC}
 use Rattle.pid.specs.Sample.{lesser, greater, limited, ramped, filtered, derivative, sensedOf, clamped, backCalculated, integrated, actedOf, movedOf}
 
 -- "fine 32,767 gives 0, 32,768 gives 1, -32,768 gives 0, -32,769 gives -1"
