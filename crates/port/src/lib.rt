@@ -1,19 +1,20 @@
 // The replay for programs in other languages: what the benchmark links.
 ghost use mathlib.Core.Path.{_≡_};
 ghost use lib.ListN.{length};
+ghost use Rattle.settings.specs.Table.{lines};
 ghost use Rattle.port.specs.Port.{readyOf, codeOf, outOf};
-use pid::record::Command;
-use pid::record::Loop;
-use pid::settings::Settings;
+use delivery::numbered::Numbered;
+use pid::command::Command;
+use settings::Settings;
 
-// The first 26 numbers of a list that has as many.
-fn values_of(list: &[i32]) -> [i32; 26]
-    requires { ⌜ length (now list) ≡ 26 ⌝ }
+// The numbers of a list that has as many as settings have values.
+fn values_of(list: &[i32]) -> [i32; Settings::LINES]
+    requires { ⌜ length (now list) ≡ lines ⌝ }
     ensures { λ r. ⌜ r ≡ now (list .entry) ⌝ }
 {
-    let mut values = [0i32; 26];
+    let mut values = [0i32; Settings::LINES];
     let mut i: usize = 0;
-    while i < 26 {
+    while i < Settings::LINES {
         values[i] = list[i];
         i += 1;
     }
@@ -21,16 +22,16 @@ fn values_of(list: &[i32]) -> [i32; 26]
 }
 
 // The loop that is replayed: made of these settings, automatic, with a gain set, and a target at the settings' rate.
-fn ready(values: [i32; 26], set: i32, target: i32) -> Loop
-    ensures { λ r. ⌜ r ≡ readyOf values set target ⌝ }
+fn ready(settings: Settings, set: i32, target: i32) -> Numbered
+    ensures { λ r. ⌜ r ≡ readyOf settings set target ⌝ }
 {
-    let made = Loop::make(Settings::of(values));
+    let made = Numbered::make(settings);
     let fresh = made.state;
     let first = fresh.deliver(1, Command::Automatic);
     let automatic = first.state;
     let second = automatic.deliver(2, Command::Set(set));
     let chosen = second.state;
-    let third = chosen.deliver(3, Command::Target(target, values[5]));
+    let third = chosen.deliver(3, Command::Target(target, settings.rate));
     third.state
 }
 
@@ -46,10 +47,10 @@ pub extern "C" fn port_replay(
     ensures { λ r. ⌜ r ≡ codeOf (now (values .entry)) set target (now (samples .entry)) (length (now (out .entry))) ⌝ }
     ensures { λ _. ⌜ now (out .exit) ≡ outOf (now (values .entry)) set target (now (samples .entry)) (now (out .entry)) ⌝ }
 {
-    if values.len() != 26 {
+    if values.len() != Settings::LINES {
         return 11;
     }
-    let start = ready(values_of(values), set, target);
+    let start = ready(Settings::of(values_of(values)), set, target);
     let done = start.replay(4, samples, out);
     done.code as i32
 }

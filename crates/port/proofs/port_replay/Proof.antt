@@ -5,7 +5,9 @@ use lib.ListN.{length}
 use lib.IntN.{pos}
 use mir.Syntax.{w32}
 use mir.Facts.{toZ-ofZ, toZ-pos}
-use Rattle.pid.specs.declared.replay.Replayed.{Replayed}
+use Rattle.delivery.specs.declared.replay.Replayed.{Replayed}
+use Rattle.settings.specs.Table.{lines}
+use Rattle.settings.specs.Settings.{settingsOf}
 use Rattle.port.specs.Port.{readyOf, codeOf, outOf}
 use borrow.Author.Needs.{needs}
 use Rattle.port.proofs.port_replay.Statement.{statement}
@@ -14,11 +16,14 @@ use Rattle.port.proofs.port_replay.Tie as tie
 returns : tie.Need-returns
 unfolding codeOf outOf
 returns c =
-    let n = ne-eqb (length (now (c .before .args .values))) 26 (c .if1 .taken) in
+    let n = ne-eqb (length (now (c .before .args .values))) lines (c .if1 .taken) in
     (rw n, rw n)
 
 values-of-requires : tie.Need-values-of-requires
 values-of-requires c κs = search needs
+
+of-requires : tie.Need-of-requires
+of-requires c κs = search needs
 
 ready-requires : tie.Need-ready-requires
 ready-requires c κs = search needs
@@ -35,11 +40,13 @@ same-length c = search needs
 returns-2 : tie.Need-returns-2
 unfolding codeOf outOf
 returns-2 c =
-    let s = c .before .before .before .before .before .before .before in
-    let n = eq-eqb (length (now (s .args .values))) 26 (c .before .before .before .before .before .before .if1 .left) in
-    let l : c .before .before .before .before .ready .result ≡ readyOf (now (s .args .values)) (s .args .set) (s .args .target) = rw (toZ-ofZ (s .fits .set), toZ-ofZ (s .fits .target), c .before .before .before .before .before .values-of .ensures) at (c .before .before .before .before .ready .ensures) in
-    let r = c .before .before .replay .ensures in
-    (rw (n, ← l) (toZ-pos w32 (search needs) ∙ ap (λ (x : Replayed). pos (x .code)) (r .0)), rw (n, ← l) (r .1))
+    let r = c .before .before .before .before in
+    let v = r .before .before in
+    let s = v .before .before in
+    let n = eq-eqb (length (now (s .args .values))) lines (v .before .if1 .left) in
+    let l : r .ready .result ≡ readyOf (settingsOf (now (s .args .values))) (s .args .set) (s .args .target) = rw (toZ-ofZ (s .fits .set), toZ-ofZ (s .fits .target), r .before .of .ensures, v .values-of .ensures) at (r .ready .ensures) in
+    let d = c .before .before .replay .ensures in
+    (rw (n, ← l) (toZ-pos w32 (search needs) ∙ ap (λ (x : Replayed). pos (x .code)) (d .0)), rw (n, ← l) (d .1))
 
 pub port-replay-spec : {M : Type 1} → statement M
 port-replay-spec =
@@ -47,6 +54,7 @@ port-replay-spec =
     (tie.spec
     returns
     values-of-requires
+    of-requires
     ready-requires
     replay-requires
     cast-result

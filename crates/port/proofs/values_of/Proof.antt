@@ -11,14 +11,15 @@ use mir.Syntax.{w32}
 use mir.Val.{SFits}
 use mir.Facts.{toZ-ofZ}
 use Rattle.whole.proofs.Bits.{elem-fits}
+use Rattle.settings.specs.Table.{lines}
 use Rattle.port.proofs.values_of.Statement.{statement}
 use Rattle.port.proofs.values_of.Tie as tie
 
 abbrev Inv-loop : tie.InvT-loop
-Inv-loop list values₀ i₀ values i = (i ≤ 26) × (take i values ≡ take i list) × (length values ≡ 26)
+Inv-loop list values₀ i₀ values i = (i ≤ lines) × (take i values ≡ take i list) × (length values ≡ lines)
 
 abbrev μ-loop : tie.MeasureT-loop
-μ-loop list values₀ i₀ values i = 26 - i
+μ-loop list values₀ i₀ values i = lines - i
 
 loop-holds : tie.Need-loop-holds Inv-loop μ-loop
 loop-holds c = (omega arith, refl, refl)
