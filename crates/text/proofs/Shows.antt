@@ -5,8 +5,8 @@ use mathlib.Core.List.{List, _∷_, _++_, append-assoc}
 use native.Mathlib.Nat.{pow-suc}
 use native.Mathlib.Omega.{arith}
 use lib.IntN.{ℤ, pos, negsuc, natAbs}
-use lib.ListN.{length, take, drop, set, replicate, length-replicate, length-append, length-take}
-use lib.Seq.{sets, drop-at, take-all}
+use lib.ListN.{length, drop, set, replicate, length-replicate, length-append, length-take}
+use lib.Seq.{sets, drop-at}
 use mir.Syntax.{w32}
 use mir.Val.{SFits}
 use Rattle.settings.specs.declared.table.Row.{Row}

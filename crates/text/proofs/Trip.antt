@@ -1,16 +1,16 @@
 -- The text there and back: settings written are read back the same, and a text read is written back as the same bytes.
 use Prim.Native.Nat.{ℕ, suc, _+_, _^_, _<_, _≤_}
 use mathlib.Core.Path.{_≡_, refl, sym, ap, ap₂, subst, _∙_}
-use mathlib.Core.Bool.{Bool, true, false, cond, not, _&&_}
+use mathlib.Core.Bool.{Bool, true, not, _&&_}
 use mathlib.Core.List.{List, [], _∷_, _++_, append-assoc, append-nil}
 use native.Mathlib.Nat.{add-zero}
 use native.Mathlib.Omega.{arith}
-use borrow.Author.Tests.{eqb-true, eq-eqb, ne-eqb, lt-ltb, not-true}
+use borrow.Author.Tests.{eqb-true, eq-eqb, ne-eqb, lt-ltb}
 use lib.Dec.{eqb}
 use lib.IntN.{ℤ, pos, negsuc, natAbs}
 use lib.ListN.{length, take, drop, length-append, take-append-drop}
 use lib.Signed.{leZ}
-use lib.Seq.{take-at, drop-at, drop-append-add, length-take-le}
+use lib.Seq.{drop-at, length-take-le}
 use Rattle.whole.proofs.Truth.{both, and, never}
 use Rattle.whole.specs.Numbers.{inside}
 use Rattle.whole.proofs.Parts.{zs, inside-yes}

@@ -1,6 +1,5 @@
-use Prim.Native.Nat.{_+_}
 use mathlib.Core.Path.{_∙_}
-use Rattle.settings.specs.Table.{table, heads}
+use Rattle.settings.specs.Table.{table}
 use Rattle.settings.proofs.Fit.{settings-fit}
 use Rattle.settings.proofs.Ranges.{held, meet, last}
 use borrow.Author.Needs.{needs}

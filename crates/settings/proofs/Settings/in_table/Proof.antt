@@ -5,7 +5,6 @@ use mathlib.Core.Bool.{_&&_}
 use borrow.Author.Tests.{not-true, not-false}
 use Rattle.whole.proofs.Truth.{so}
 use Rattle.settings.specs.Table.{sets}
-use Rattle.settings.specs.Settings.{inTable}
 use Rattle.settings.proofs.Fit.{settings-fit}
 use Rattle.settings.proofs.Ranges.{setsIn, table-parts, table-sets, sets-in-next, sets-in-end}
 use native.Mathlib.Omega.{arith}
