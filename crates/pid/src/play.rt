@@ -1,9 +1,11 @@
 // A lent list of samples under the plain law, given in order; the front of a lent list takes the outputs.
 ghost use mathlib.Core.Path.{_≡_};
+ghost use mathlib.Core.Bool.{true};
 ghost use Prim.Native.Nat.{_≤_};
 ghost use lib.ListN.{length};
+ghost use Rattle.pid.specs.Record.{valid};
 ghost use Rattle.pid.specs.Bounds.{FixedOk, MovingOk};
-ghost use Rattle.pid.specs.Play.{firstBad, movedAfter, movedOutputs, frontFilled, refusedOf, playedOf, wroteOf};
+ghost use Rattle.pid.specs.Play.{firstBad, movedAfter, movedOutputs, afterSamples, outputsOf, frontFilled, refusedOf, playedOf, wroteOf};
 use crate::record::Loop;
 use crate::sample::Fixed;
 use crate::sample::Moving;
@@ -60,6 +62,16 @@ impl Loop {
         }
     }
 
+    // Every sample is good, and has its place.
+    fn give(self, samples: &[i32], out: &mut [i32]) -> Loop
+        requires { ⌜ (valid self ≡ true) × (firstBad (now samples) ≡ length (now samples)) × (length (now samples) ≤ length (now out)) ⌝ }
+        ensures { λ r. ⌜ r ≡ afterSamples self (now (samples .entry)) ⌝ }
+        ensures { λ _. ⌜ now (out .exit) ≡ frontFilled (outputsOf self (now (samples .entry))) (now (out .entry)) ⌝ }
+    {
+        let m = run(self.fixed(), self.moving(), samples, out);
+        self.with_moving(m)
+    }
+
     // 10, then 12, then 4 "with the place of the first bad sample"; else every sample is given once.
     pub fn play(self, samples: &[i32], out: &mut [i32]) -> Played
         ensures { λ r. ⌜ r ≡ playedOf self (now (samples .entry)) (length (now (out .entry))) ⌝ }
@@ -75,11 +87,10 @@ impl Loop {
         if place < samples.len() {
             return self.refused(4, place);
         }
-        let m = run(self.fixed(), self.moving(), samples, out);
         Played {
             code: 0,
             place: 0,
-            state: self.with_moving(m),
+            state: self.give(samples, out),
         }
     }
 }
