@@ -1,5 +1,7 @@
 mod Puts
 mod Steps
+mod Line
+mod Places
 mod Pieces
 mod Starts
 mod Numbers

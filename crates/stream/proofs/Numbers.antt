@@ -2,20 +2,19 @@
 use Prim.Native.Nat.{ℕ, zero, suc, _+_, _^_, _<_, _≤_}
 use mathlib.Core.Path.{_≡_}
 use mathlib.Core.Bool.{true, not, _&&_}
-use mathlib.Core.List.{List, [], _∷_}
+use mathlib.Core.List.{List}
 use native.Mathlib.Nat.{pow-le-pow-right}
 use native.Mathlib.Omega.{arith}
 use borrow.Author.Tests.{leb-true}
-use lib.Dec.{leb, eqb, lit<}
+use lib.Dec.{leb, lit<}
 use lib.IntN.{pos, negℤ, _-ℤ_, +ℤ-idl}
 use lib.ListN.{length}
 use mir.Syntax.{w32, w64}
 use mir.Val.{SFits, toZ}
 use mir.Facts.{toZ-pos}
-use Rattle.whole.proofs.Truth.{both, chosen}
+use Rattle.whole.proofs.Truth.{both}
 use Rattle.text.specs.Decimal.{allDigits, leadingZero}
 use Rattle.stream.specs.Number.{isLong}
-use Rattle.stream.specs.Journal.{spaceEnd}
 
 pub record Long (w : List ℕ) : Type 0 where
   pub few : length w ≤ 10
@@ -43,9 +42,3 @@ wide-fits (suc n) l = record { sfits = omega arith }
 -- what `0 - n` is, of a number that a cast made signed
 pub turned : (n : ℕ) → n ≤ 2147483648 → (pos 0 -ℤ toZ w64 n) ≡ negℤ (pos n)
 turned n l = rw (toZ-pos w64 {n = n} (omega arith)) (+ℤ-idl (negℤ (pos n)))
-
--- ---- the first space of a text
-
-pub space-in : (s : List ℕ) → spaceEnd s ≤ length s
-space-in [] = omega arith
-space-in (b ∷ s) = chosen (λ (n : ℕ). n ≤ suc (length s)) (eqb b 32) (λ _. omega arith) (λ _. omega (arith, space-in s))

@@ -1,10 +1,11 @@
 -- A file, byte by byte and in pieces: what is left of the run, and every byte that is written.
-use Prim.Native.Nat.{ℕ, _/_, _≤_}
+use Prim.Native.Nat.{ℕ, _+_, _/_, _≤_}
 use mathlib.Core.Path.{_≡_}
-use mathlib.Core.Bool.{Bool, true, false, cond, _||_}
+use mathlib.Core.Bool.{Bool, true, false, cond, not, _&&_, _||_}
 use mathlib.Core.List.{List, [], _∷_, _++_}
 use lib.Dec.{eqb, ltb, leb}
 use lib.ListN.{length, take, drop}
+use lib.Seq.{sets}
 use Rattle.pid.specs.declared.record.Loop.{Loop}
 use Rattle.stream.specs.declared.run.Run.{Run}
 use Rattle.stream.specs.declared.feed.Ran.{Ran}
@@ -42,7 +43,35 @@ written r (b ∷ s) = byteOf r b .text ++ written (byteOf r b .run) s
 abbrev pub passing : Run → List ℕ → Step
 passing r s = record { run = after r s; text = written r s }
 
--- the end of the file: "a last one without its line feed, is 14"
+-- ---- a line at once: what its bytes do one by one
+
+-- no line feed among these bytes
+abbrev pub plain : List ℕ → Bool
+plain [] = true
+plain (b ∷ w) = not (eqb b 10) && plain w
+
+-- the line under way with more bytes of it
+abbrev pub grownOf : Run → List ℕ → Run
+grownOf r w = record {
+  ended = r .ended;
+  journal = r .journal;
+  bytes = sets (r .bytes) (r .len) w;
+  len = r .len + length w;
+  line = r .line;
+  state = r .state;
+}
+
+-- bytes of a line before its line feed
+unfoldable pub partOf : Run → List ℕ → Step
+partOf r w = cond (r .ended) (idle r) (cond (ltb lineMost (r .len + length w)) (refusing r 14) (idle (grownOf r w)))
+
+-- the last bytes of a line, and its line feed
+unfoldable pub lineOf : Run → List ℕ → Step
+lineOf r w = cond (r .ended) (idle r) (judging (grownOf r w))
+
+-- ---- the end of the file
+
+-- "a last one without its line feed, is 14"
 unfoldable pub finishing : Run → Step
 finishing r = cond (r .ended || eqb (r .len) 0) (idle r) (refusing r 14)
 

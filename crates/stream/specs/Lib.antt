@@ -1,3 +1,5 @@
+pub mod Words
+pub mod Place
 pub mod Run
 pub mod Oven
 pub mod Number

@@ -1,7 +1,7 @@
 -- 01, "What is built": the program that writes the outputs of samples. What becomes of one line of the file.
 use Prim.Native.Nat.{ℕ, _+_}
 use mathlib.Core.Bool.{cond}
-use mathlib.Core.List.{List, [], _∷_, _++_}
+use mathlib.Core.List.{List, _++_}
 use lib.Dec.{eqb}
 use lib.IntN.{ℤ}
 use Rattle.pid.specs.declared.record.Command.the-variants.{Sample}
@@ -11,6 +11,7 @@ use Rattle.pid.specs.Delivery.{deliveredOf}
 use Rattle.text.specs.declared.decimal.Decimal.{Decimal}
 use Rattle.text.specs.declared.decimal.Decimal.the-variants.{Is, Wrong}
 use Rattle.text.specs.Decimal.{decimal, decimalOf}
+use Rattle.stream.specs.Words.{bytes}
 use Rattle.stream.specs.Run.{Judged, refused, answered, lastNumber}
 
 -- "delivers [..] the samples from number 2 on": each under the number after the last
@@ -19,7 +20,7 @@ sampledOf l pv = deliveredOf l (l .number + 1) (Sample pv)
 
 -- "writes each output as a decimal and a line feed"
 abbrev pub outputLine : ℤ → List ℕ
-outputLine output = decimal output ++ (10 ∷ [])
+outputLine output = decimal output ++ bytes "\n"
 
 -- an accepted sample is answered, a refused one ends the run
 unfoldable pub byAnswer : Delivered → Judged

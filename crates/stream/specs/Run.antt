@@ -4,10 +4,11 @@ use mathlib.Core.Path.{_≡_}
 use mathlib.Core.Bool.{true, cond}
 use mathlib.Core.List.{List, [], _∷_, _++_}
 use lib.Dec.{ltb}
-use lib.ListN.{length, take, set}
+use lib.ListN.{length, take, set, replicate}
 use lib.Seq.{sets}
 use Rattle.pid.specs.declared.record.Loop.{Loop}
 use Rattle.text.specs.Decimal.{shown}
+use Rattle.stream.specs.Words.{bytes}
 use Rattle.stream.specs.declared.run.Run.{Run}
 use Rattle.stream.specs.declared.run.Told.{Told}
 
@@ -40,20 +41,24 @@ lastNumber = 4294967295
 
 -- ---- a refusal
 
--- the bytes of `refused ` with its space
 abbrev pub refusedWord : List ℕ
-refusedWord = 114 ∷ 101 ∷ 102 ∷ 117 ∷ 115 ∷ 101 ∷ 100 ∷ 32 ∷ []
+refusedWord = bytes "refused "
 
 -- "it writes `refused`, the code and the line, one space between, and a line feed"
 unfoldable pub refusedLine : ℕ → ℕ → List ℕ
-refusedLine code line = refusedWord ++ (shown code ++ ((32 ∷ []) ++ (shown line ++ (10 ∷ []))))
+refusedLine code line = refusedWord ++ (shown code ++ (bytes " " ++ (shown line ++ bytes "\n")))
 
+-- the room for a line of which nothing has come yet
+abbrev pub noBytes : List ℕ
+noBytes = replicate lineMost 0
+
+-- ended, with no line under way
 abbrev pub overOf : Run → Run
 overOf r = record {
   ended = true;
   journal = r .journal;
-  bytes = r .bytes;
-  len = r .len;
+  bytes = noBytes;
+  len = 0;
   line = r .line;
   state = r .state;
 }
@@ -77,7 +82,7 @@ abbrev pub nextOf : Run → Loop → Run
 nextOf r l = record {
   ended = r .ended;
   journal = r .journal;
-  bytes = r .bytes;
+  bytes = noBytes;
   len = 0;
   line = following (r .line);
   state = l;

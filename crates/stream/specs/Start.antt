@@ -3,7 +3,7 @@ use Prim.Native.Nat.{ℕ}
 use mathlib.Core.Bool.{Bool, false, cond}
 use mathlib.Core.List.{List, [], _++_}
 use lib.Dec.{eqb, leb}
-use lib.ListN.{length, replicate}
+use lib.ListN.{length}
 use Rattle.pid.specs.declared.settings.Settings.{Settings}
 use Rattle.pid.specs.declared.record.Command.the-variants.{Automatic}
 use Rattle.pid.specs.declared.record.Loop.{Loop}
@@ -13,7 +13,7 @@ use Rattle.text.specs.declared.reader.Reading.{Reading}
 use Rattle.text.specs.Reader.{readText}
 use Rattle.stream.specs.declared.run.Run.{Run}
 use Rattle.stream.specs.declared.feed.Ran.{Ran}
-use Rattle.stream.specs.Run.{Step, lineRoom, lineMost, overOf, refusing}
+use Rattle.stream.specs.Run.{Step, lineRoom, noBytes, overOf, refusing}
 use Rattle.stream.specs.Feed.{after, written, finishing, ranOf, outOf}
 
 -- "It makes the loop, delivers automatic as number 1"; a journal has every delivery in its file
@@ -25,7 +25,7 @@ abbrev pub startOf : Bool → ℕ → Loop → Run
 startOf journal line l = record {
   ended = false;
   journal = journal;
-  bytes = replicate lineMost 0;
+  bytes = noBytes;
   len = 0;
   line = line;
   state = l;

@@ -4,5 +4,6 @@ pub mod feed;
 mod journal;
 mod number;
 mod oven;
+mod place;
 pub mod run;
 pub mod start;

@@ -3,7 +3,7 @@ ghost use mathlib.Core.Path.{_≡_};
 ghost use Prim.Native.Nat.{_+_, _≤_};
 ghost use lib.ListN.{length};
 ghost use lib.Seq.{sets};
-ghost use Rattle.stream.specs.Run.{lineRoom, refusedLine, refusing, following, overOf, nextOf, Tells, keeping};
+ghost use Rattle.stream.specs.Run.{lineRoom, refusedLine, refusing, following, overOf, nextOf, Tells};
 use pid::record::Loop;
 use text::buffer::put;
 use text::buffer::put_unsigned;
@@ -50,10 +50,13 @@ fn following(line: u32) -> u32
 }
 
 impl Run {
+    // Ended, with no line under way.
     pub(crate) fn over(mut self) -> Run
         ensures { λ r. ⌜ r ≡ overOf self ⌝ }
     {
         self.ended = true;
+        self.bytes = [0; 80];
+        self.len = 0;
         self
     }
 
@@ -62,6 +65,7 @@ impl Run {
         ensures { λ r. ⌜ r ≡ nextOf self state ⌝ }
     {
         let line = following(self.line);
+        self.bytes = [0; 80];
         self.len = 0;
         self.line = line;
         self.state = state;
@@ -78,21 +82,5 @@ impl Run {
             run: self.over(),
             at: end,
         }
-    }
-
-    // A byte of the line under way; a line longer than any well-formed one is refused at once.
-    pub(crate) fn keep(mut self, b: u8, out: &mut [u8], at: usize) -> Told
-        requires { ⌜ at + lineRoom ≤ length (now out) ⌝ }
-        ensures { λ r. ⌜ Tells lineRoom (keeping self b) at (now (out .entry)) r (now (out .exit)) ⌝ }
-    {
-        let len = self.len;
-        if 80 <= len {
-            return self.refuse(14, out, at);
-        }
-        let mut bytes = self.bytes;
-        bytes[len] = b;
-        self.bytes = bytes;
-        self.len = len + 1;
-        Told { run: self, at }
     }
 }

@@ -1,7 +1,14 @@
-use Prim.Native.Nat.{_*_, _-_, _≤_}
-use mathlib.Core.Path.{_≡_, refl}
-use lib.ListN.{length}
+-- The loop's invariant: the whole piece leads to what the rest of it leads to, and each byte passed has left its room.
+use Prim.Native.Nat.{_+_, _*_, _-_, _<_, _≤_}
+use mathlib.Core.Path.{_≡_, refl, sym, ap, _∙_}
+use mathlib.Core.List.{List, [], _∷_, _++_, append-nil}
+use denote.Ref.{now}
+use lib.ListN.{length, take, drop, length-drop, drop-of-length-le}
+use lib.Seq.{length-take-le}
+use Rattle.text.proofs.Lists.{part-left}
 use Rattle.stream.specs.Run.{lineRoom}
+use Rattle.stream.proofs.Places.{place-in, place-split, feed-plain, all-plain}
+use Rattle.stream.proofs.Line.{part-passing, line-passing}
 use Rattle.stream.proofs.Pieces.{Passed, passed-none, passed-more, passed-all}
 use native.Mathlib.Omega.{arith}
 use borrow.Author.Needs.{needs}
@@ -9,39 +16,85 @@ use Rattle.stream.proofs.run.Run.pass.Statement.{statement}
 use Rattle.stream.proofs.run.Run.pass.Tie as tie
 
 abbrev Inv-loop : tie.InvT-loop
-Inv-loop piece out₀ run₀ at₀ i₀ out run at i =
-    (i ≤ length piece) × (length out ≡ length out₀) × (at ≤ i * lineRoom) × Passed run₀ piece out₀ run at i out
+Inv-loop piece out₀ run₀ at₀ rest₀ out run at rest =
+    (length out ≡ length out₀) × (at + length rest * lineRoom ≤ length piece * lineRoom) × Passed run₀ piece out₀ run at rest out
 
 abbrev μ-loop : tie.MeasureT-loop
-μ-loop piece out₀ run₀ at₀ i₀ out run at i = length piece - i
+μ-loop piece out₀ run₀ at₀ rest₀ out run at rest = length rest
 
 loop-holds : tie.Need-loop-holds Inv-loop μ-loop
-loop-holds c = (omega arith, refl, omega arith, passed-none)
+loop-holds c = (refl, omega arith, passed-none)
 
-shared-slice-read-byte : tie.Need-shared-slice-read-byte Inv-loop μ-loop
-shared-slice-read-byte c = omega arith
+place-of-requires : tie.Need-place-of-requires Inv-loop μ-loop
+place-of-requires c κs = search needs
 
-byte-requires : tie.Need-byte-requires Inv-loop μ-loop
-byte-requires c κs = search needs
+carry-requires : tie.Need-carry-requires Inv-loop μ-loop
+carry-requires c κs = search needs
 
-add-i : tie.Need-add-i Inv-loop μ-loop
-add-i c = omega arith
+same-length : tie.Need-same-length Inv-loop μ-loop
+same-length c = search needs
+
+returns : tie.Need-returns Inv-loop μ-loop
+returns c =
+    let p = c .before .before .before .before .before in
+    let l = p .before .before .loop in
+    let s = l .rest .now in
+    let k = c .before .before .carry .ensures in
+    let h : 0 < length s = omega arith in
+    let f = part-passing (l .run) s (all-plain _ s (p .place-of .ensures) (c .before .before .before .before .if1 .taken)) h in
+    passed-all (omega (arith, k .few, l .inv .1)) (passed-more s [] (sym (append-nil s)) f (l .inv .2) k)
+
+-- past the test the line feed is there
+there : (c : tie.Else1 Inv-loop μ-loop) → c .before .place-of .result < length (c .before .before .before .loop .rest .now)
+there c = let s = c .before .before .before .loop .rest .now in omega (arith, c .before .place-of .ensures, place-in 10 s, c .if1 .left)
+
+slice-aggregate-line : tie.Need-slice-aggregate-line Inv-loop μ-loop
+slice-aggregate-line c = let h : c .before .before .place-of .result ≤ length (c .before .before .before .before .loop .rest .now) = omega (arith, there (c .before)) in sym (length-take-le _ _ h)
+
+line-requires : tie.Need-line-requires Inv-loop μ-loop
+line-requires c κs = search needs
+
+add-rest : tie.Need-add-rest Inv-loop μ-loop
+add-rest c = omega (arith, there (c .before .before .before .before .before .before), c .before .before .before .before .before .before .before .before .before .loop .inv .1)
+
+sub-rest : tie.Need-sub-rest Inv-loop μ-loop
+sub-rest c = omega (arith, there (c .before .before .before .before .before .before))
+
+part-rest-start : tie.Need-part-rest-start Inv-loop μ-loop
+part-rest-start c = omega (arith, there (c .before .before .before .before .before .before))
+
+part-rest-end : tie.Need-part-rest-end Inv-loop μ-loop
+part-rest-end c = search needs
+
+-- how much is left
+left : (c : tie.After-rest Inv-loop μ-loop) →
+    let n = c .before .before .before .before .before .before .before .before .place-of .result in
+    let s = c .before .before .before .before .before .before .before .before .before .before .loop .rest .now in
+    length (take (length s - (n + 1)) (drop (n + 1) s)) ≡ length s - (n + 1)
+left c = let n = c .before .before .before .before .before .before .before .before .place-of .result in let s = c .before .before .before .before .before .before .before .before .before .before .loop .rest .now in ap length (part-left s (n + 1)) ∙ length-drop (n + 1) s
 
 loop-less : tie.Need-loop-less Inv-loop μ-loop
-loop-less c = omega arith
+loop-less c = omega (arith, there (c .before .before .before .before .before .before .before), left c)
 
 loop-again : tie.Need-loop-again Inv-loop μ-loop
 loop-again c =
-    let t = c .before .before .before in
-    let l = t .before .before .before .before .loop in
-    let e = t .byte .ensures in
-    (omega arith, search needs, omega (arith, e .few), passed-more (omega arith) (l .inv .3) e)
+    let t = c .before .before .before .before in
+    let l = c .before .before .before .before .before .before .before .before .before .before .loop in
+    let n = c .before .before .before .before .before .before .before .before .place-of .result in
+    let s = l .rest .now in
+    let e = c .before .before .before .before .before .before .before .before .place-of .ensures in
+    let k = there (c .before .before .before .before .before .before .before) in
+    let d = place-split 10 n s e k ∙ ap (λ (x : List _). (take n s ++ (10 ∷ [])) ++ x) (sym (part-left s (n + 1))) in
+    (search needs, omega (arith, t .line .ensures .few, l .inv .1, left c), passed-more (take n s ++ (10 ∷ [])) _ d (line-passing (l .run) (take n s) (feed-plain n s e)) (l .inv .2) (t .line .ensures))
 
-same-length : tie.Need-same-length Inv-loop μ-loop
-same-length c = c .before .loop .inv .1
+same-length-2 : tie.Need-same-length-2 Inv-loop μ-loop
+same-length-2 c = c .before .loop .inv .0
 
-returns : tie.Need-returns Inv-loop μ-loop
-returns c = let l = c .before .loop in passed-all (omega arith) (omega arith) (omega arith) (l .inv .3)
+returns-2 : tie.Need-returns-2 Inv-loop μ-loop
+returns-2 c =
+    let l = c .before .loop in
+    let e : l .rest .now ≡ [] = drop-of-length-le (l .rest .now) (c .loop-test .left) in
+    passed-all (omega (arith, l .inv .1)) (rw e at (l .inv .2))
 
 pub pass-spec : {M : Type 1} → statement M
 pass-spec =
@@ -50,10 +103,17 @@ pass-spec =
     Inv-loop
     μ-loop
     loop-holds
-    shared-slice-read-byte
-    byte-requires
-    add-i
+    place-of-requires
+    carry-requires
+    same-length
+    returns
+    slice-aggregate-line
+    line-requires
+    add-rest
+    sub-rest
+    part-rest-start
+    part-rest-end
     loop-less
     loop-again
-    same-length
-    returns)
+    same-length-2
+    returns-2)
