@@ -1,7 +1,7 @@
 -- The bytes of a line, all at once: what they do one by one.
 use Prim.Native.Nat.{ℕ, _+_, _<_, _≤_}
 use mathlib.Core.Path.{_≡_, refl, sym, ap, ap₂, _∙_}
-use mathlib.Core.Bool.{true, false, not}
+use mathlib.Core.Bool.{true, false, not, cond}
 use mathlib.Core.List.{List, [], _∷_, _++_, append-nil}
 use native.Mathlib.Nat.{zero-add}
 use native.Mathlib.Numerals.{add-one}
@@ -13,7 +13,7 @@ use Rattle.whole.proofs.Truth.{both, by-test, cond-yes, cond-no}
 use Rattle.text.proofs.Stores.{text-part}
 use Rattle.stream.specs.declared.run.Run.{Run}
 use Rattle.stream.specs.Run.{Step, Judged, refused, answered, lineMost, refusedLine, overOf, refusing, wordOf, lineStep, keptOf, keeping}
-use Rattle.stream.specs.Feed.{judging, idle, byteOf, after, written, passing, plain, grownOf, partOf, lineOf}
+use Rattle.stream.specs.Feed.{judgedBy, judging, idle, byteOf, after, written, passing, plain, grownOf, lineOf}
 use Rattle.stream.proofs.promises.Cut.{cut-after, cut-written}
 
 -- ---- one byte
@@ -68,7 +68,7 @@ grown-more : (r : Run) (b : ℕ) (w : List ℕ) → grownOf (keptOf r b) w ≡ g
 grown-more r b w = ap₂ (withLine r) (rw add-one) (omega arith)
 
 -- what a line leads to does not depend on the bytes that are kept of it
-pub grown-step : (r : Run) (w : List ℕ) (j : Judged) → lineStep (grownOf r w) j ≡ lineStep r j
+grown-step : (r : Run) (w : List ℕ) (j : Judged) → lineStep (grownOf r w) j ≡ lineStep r j
 grown-step r w (refused code) = refl
 grown-step r w (answered l text) = refl
 
@@ -95,10 +95,10 @@ long-line r (b ∷ w) e p h k =
     ap (then w) (byte-kept r e b f l) ∙ long-line (keptOf r b) w e (q .1) (omega arith) (omega arith))
     (λ t. ap (then w) (byte-long r e b f (ltb-false (r .len) 80 t)) ∙ refused-then r 14 w)
 
--- ---- bytes before a line's end, and a line with its line feed
+-- ---- the next bytes of a line, without and with its line feed
 
-pub part-passing : (r : Run) (w : List ℕ) → plain w ≡ true → 0 < length w → passing r w ≡ partOf r w
-unfolding partOf
+pub part-passing : (r : Run) (w : List ℕ) → plain w ≡ true → 0 < length w → passing r w ≡ lineOf r w false
+unfolding lineOf
 part-passing r w p h =
     by-test (r .ended) (λ e. over-passing r w e ∙ sym (cond-yes _ _ e))
     (λ e. by-test (ltb lineMost (r .len + length w))
@@ -119,7 +119,10 @@ line-going r (b ∷ w) e p =
     (λ t. ap (then (10 ∷ [])) (long-line r (b ∷ w) e p (omega arith) (ltb-true lineMost n t)) ∙ refused-then r 14 (10 ∷ []) ∙ sym (cond-yes _ _ t))
     (λ t. ap (then (10 ∷ [])) (short-line r (b ∷ w) e p (ltb-false lineMost n t)) ∙ feed-next (grownOf r (b ∷ w)) e)
 
-pub line-passing : (r : Run) (w : List ℕ) → plain w ≡ true → passing r (w ++ (10 ∷ [])) ≡ lineOf r w
-unfolding lineOf
+pub line-passing : (r : Run) (w : List ℕ) → plain w ≡ true → passing r (w ++ (10 ∷ [])) ≡ lineOf r w true
+unfolding lineOf judging
 line-passing r w p =
-    by-test (r .ended) (λ e. over-passing r (w ++ (10 ∷ [])) e ∙ sym (cond-yes _ _ e)) (λ e. line-going r w e p ∙ sym (cond-no _ _ e))
+    by-test (r .ended) (λ e. over-passing r (w ++ (10 ∷ [])) e ∙ sym (cond-yes _ _ e))
+    (λ e. line-going r w e p
+    ∙ ap (cond (ltb lineMost (r .len + length w)) (refusing r 14)) (grown-step r w (judgedBy (r .journal) (r .state) (wordOf (grownOf r w))))
+    ∙ sym (cond-no _ _ e))

@@ -61,13 +61,12 @@ grownOf r w = record {
   state = r .state;
 }
 
--- bytes of a line before its line feed
-unfoldable pub partOf : Run → List ℕ → Step
-partOf r w = cond (r .ended) (idle r) (cond (ltb lineMost (r .len + length w)) (refusing r 14) (idle (grownOf r w)))
-
--- the last bytes of a line, and its line feed
-unfoldable pub lineOf : Run → List ℕ → Step
-lineOf r w = cond (r .ended) (idle r) (judging (grownOf r w))
+-- the next bytes of a line, and its line feed where that has come
+unfoldable pub lineOf : Run → List ℕ → Bool → Step
+lineOf r w fed =
+    cond (r .ended) (idle r)
+    (cond (ltb lineMost (r .len + length w)) (refusing r 14)
+    (cond fed (lineStep r (judgedBy (r .journal) (r .state) (wordOf (grownOf r w)))) (idle (grownOf r w))))
 
 -- ---- the end of the file
 

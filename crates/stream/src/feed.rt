@@ -3,8 +3,8 @@ ghost use mathlib.Core.Path.{_≡_};
 ghost use Prim.Native.Nat.{_+_, _*_, _≤_};
 ghost use lib.Dec.{ltb};
 ghost use lib.ListN.{length};
-ghost use Rattle.stream.specs.Run.{lineRoom, lineMost, lineStep, Tells};
-ghost use Rattle.stream.specs.Feed.{judgedBy, lineOf, partOf, passing, fedOf, outFed, finishedOf, outFinished, Counts};
+ghost use Rattle.stream.specs.Run.{lineRoom, lineMost, wordOf, lineStep, Tells};
+ghost use Rattle.stream.specs.Feed.{judgedBy, grownOf, lineOf, passing, fedOf, outFed, finishedOf, outFinished, Counts};
 use crate::place::place_of;
 use crate::run::Run;
 use crate::run::Told;
@@ -41,45 +41,53 @@ impl Run {
         self.sample_line(line, out, at)
     }
 
-    // The part of a line that stands before its line feed. A line that lies whole in the piece is judged where it stands;
-    // one that began in an earlier piece is joined with what was carried of it.
-    fn line(self, part: &[u8], out: &mut [u8], at: usize) -> Told
-        requires { ⌜ at + lineRoom ≤ length (now out) ⌝ }
-        ensures { λ r. ⌜ Tells lineRoom (lineOf self (now (part .entry))) at (now (out .entry)) r (now (out .exit)) ⌝ }
+    // The line under way with more bytes of it.
+    fn grown(mut self, part: &[u8]) -> Run
+        requires { ⌜ self .len + length (now part) ≤ lineMost ⌝ }
+        ensures { λ r. ⌜ r ≡ grownOf self (now (part .entry)) ⌝ }
     {
         let len = self.len;
-        if self.ended {
-            return Told { run: self, at };
-        }
-        if too_long(len, part) {
-            return self.refuse(14, out, at);
-        }
-        if len == 0 {
-            return self.judge(part, out, at);
-        }
-        let mut bytes = self.bytes;
-        put(&mut bytes, len, part);
-        let end = len + part.len();
-        self.judge(&bytes[..end], out, at)
-    }
-
-    // A part of a line whose line feed has yet to come.
-    fn carry(mut self, part: &[u8], out: &mut [u8], at: usize) -> Told
-        requires { ⌜ at + lineRoom ≤ length (now out) ⌝ }
-        ensures { λ r. ⌜ Tells lineRoom (partOf self (now (part .entry))) at (now (out .entry)) r (now (out .exit)) ⌝ }
-    {
-        let len = self.len;
-        if self.ended {
-            return Told { run: self, at };
-        }
-        if too_long(len, part) {
-            return self.refuse(14, out, at);
-        }
         let mut bytes = self.bytes;
         put(&mut bytes, len, part);
         self.bytes = bytes;
         self.len = len + part.len();
-        Told { run: self, at }
+        self
+    }
+
+    // A line whose last bytes these are. One that lies whole in the piece is judged where it stands; one that began in an
+    // earlier piece is joined with what was carried of it.
+    fn line(self, part: &[u8], out: &mut [u8], at: usize) -> Told
+        requires { ⌜ self .len + length (now part) ≤ lineMost ⌝ }
+        requires { ⌜ at + lineRoom ≤ length (now out) ⌝ }
+        ensures { λ r. ⌜ Tells lineRoom (lineStep self (judgedBy (self .journal) (self .state) (wordOf (grownOf self (now (part .entry)))))) at (now (out .entry)) r (now (out .exit)) ⌝ }
+    {
+        if self.len == 0 {
+            return self.judge(part, out, at);
+        }
+        let joined = self.grown(part);
+        let bytes = joined.bytes;
+        let len = joined.len;
+        self.judge(&bytes[..len], out, at)
+    }
+
+    // The next bytes of a line, up to its line feed where that has come.
+    fn take(self, part: &[u8], fed: bool, out: &mut [u8], at: usize) -> Told
+        requires { ⌜ at + lineRoom ≤ length (now out) ⌝ }
+        ensures { λ r. ⌜ Tells lineRoom (lineOf self (now (part .entry)) fed) at (now (out .entry)) r (now (out .exit)) ⌝ }
+    {
+        if self.ended {
+            return Told { run: self, at };
+        }
+        if too_long(self.len, part) {
+            return self.refuse(14, out, at);
+        }
+        if fed {
+            return self.line(part, out, at);
+        }
+        Told {
+            run: self.grown(part),
+            at,
+        }
     }
 
     fn pass(self, piece: &[u8], out: &mut [u8]) -> Told
@@ -91,10 +99,10 @@ impl Run {
         let mut rest = piece;
         while 0 < rest.len() {
             let end = place_of(10, rest);
+            let told = run.take(&rest[..end], end < rest.len(), out, at);
             if end == rest.len() {
-                return run.carry(rest, out, at);
+                return told;
             }
-            let told = run.line(&rest[..end], out, at);
             run = told.run;
             at = told.at;
             rest = &rest[end + 1..];

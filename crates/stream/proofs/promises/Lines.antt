@@ -17,11 +17,11 @@ use Rattle.text.specs.Reader.{readText}
 use Rattle.text.proofs.Digits.{sized, no-size}
 use Rattle.stream.specs.declared.run.Run.{Run}
 use Rattle.stream.specs.Run.{Step, Judged, refused, answered, lineMost, refusedLine, overOf, wordOf, following, nextOf, lineStep}
-use Rattle.stream.specs.Feed.{judgedBy, judging, after, written, plain, grownOf, partOf, lineOf, finishing}
+use Rattle.stream.specs.Feed.{judgedBy, after, written, plain, grownOf, lineOf, finishing}
 use Rattle.stream.specs.Oven.{byDecimal, sampleLine}
 use Rattle.stream.specs.Start.{firstLoop, startOf, begunBy, runOver, outputOf}
 use Rattle.stream.proofs.promises.Cut.{cut-after, cut-written}
-use Rattle.stream.proofs.Line.{over-passing, grown-step, grown-word, part-passing, line-passing}
+use Rattle.stream.proofs.Line.{over-passing, grown-word, part-passing, line-passing}
 
 -- ---- the file, line by line
 
@@ -85,7 +85,7 @@ unfolding finishing
 finish-open r e h = ap (λ (t : Step). t .text) (cond-no _ _ (ap (λ (b : Bool). b || eqb (r .len) 0) e ∙ ne-eqb (r .len) 0 h))
 
 rest-told : (r : Run) (rest : List ℕ) → Ready r → plain rest ≡ true → runOver r rest ≡ restTold (r .line) rest
-unfolding finishing closing partOf
+unfolding finishing closing lineOf
 rest-told r [] g p = ap (λ (t : Step). t .text) (cond-yes _ _ (ap₂ _||_ (g .going) (eq-eqb (r .len) 0 (g .none))))
 rest-told r (b ∷ w) g p =
     ap closing (part-passing r (b ∷ w) p (omega arith) ∙ cond-no _ _ (g .going))
@@ -94,15 +94,14 @@ rest-told r (b ∷ w) g p =
     (λ _. finish-open (grownOf r (b ∷ w)) (g .going) (λ q. omega (arith, q)))
 
 -- a line with its line feed
-ready-line : (r : Run) (w : List ℕ) → Ready r → lineOf r w ≡ lineStep r (judgedLine (r .journal) (r .state) w)
-unfolding lineOf judging
+ready-line : (r : Run) (w : List ℕ) → Ready r → lineOf r w true ≡ lineStep r (judgedLine (r .journal) (r .state) w)
+unfolding lineOf
 ready-line r w g =
     let n : r .len + length w ≡ length w = omega (arith, g .none) in
     cond-no _ _ (g .going)
     ∙ by-test (ltb lineMost (length w))
     (λ t. cond-yes _ _ (ap (ltb lineMost) n ∙ t) ∙ sym (ap (lineStep r) (cond-yes _ _ t)))
     (λ t. cond-no _ _ (ap (ltb lineMost) n ∙ t)
-    ∙ grown-step r w (judgedBy (r .journal) (r .state) (wordOf (grownOf r w)))
     ∙ ap (λ (x : List ℕ). lineStep r (judgedBy (r .journal) (r .state) x)) (grown-word r w (g .none) (g .room) (ltb-false lineMost (length w) t))
     ∙ sym (ap (lineStep r) (cond-no _ _ t)))
 

@@ -1,16 +1,18 @@
 -- The loop's invariant: the whole piece leads to what the rest of it leads to, and each byte passed has left its room.
-use Prim.Native.Nat.{_+_, _*_, _-_, _<_, _≤_}
-use mathlib.Core.Path.{_≡_, refl, sym, ap, _∙_}
+use Prim.Native.Nat.{ℕ, _+_, _*_, _-_, _<_, _≤_}
+use mathlib.Core.Path.{_≡_, refl, sym, ap, ap₂, _∙_}
 use mathlib.Core.List.{List, [], _∷_, _++_, append-nil}
+use native.Mathlib.Omega.{arith}
+use borrow.Author.Tests.{lt-ltb, le-ltb}
 use denote.Ref.{now}
 use lib.ListN.{length, take, drop, length-drop, drop-of-length-le}
-use lib.Seq.{length-take-le}
+use lib.Seq.{take-all, length-take-le}
 use Rattle.text.proofs.Lists.{part-left}
 use Rattle.stream.specs.Run.{lineRoom}
+use Rattle.stream.specs.Feed.{lineOf}
 use Rattle.stream.proofs.Places.{place-in, place-split, feed-plain, all-plain}
 use Rattle.stream.proofs.Line.{part-passing, line-passing}
 use Rattle.stream.proofs.Pieces.{Passed, passed-none, passed-more, passed-all}
-use native.Mathlib.Omega.{arith}
 use borrow.Author.Needs.{needs}
 use Rattle.stream.proofs.run.Run.pass.Statement.{statement}
 use Rattle.stream.proofs.run.Run.pass.Tie as tie
@@ -28,64 +30,69 @@ loop-holds c = (refl, omega arith, passed-none)
 place-of-requires : tie.Need-place-of-requires Inv-loop μ-loop
 place-of-requires c κs = search needs
 
-carry-requires : tie.Need-carry-requires Inv-loop μ-loop
-carry-requires c κs = search needs
+-- the line feed's place lies within the rest, or at its end
+within : (c : tie.After-place-of Inv-loop μ-loop) → c .place-of .result ≤ length (now (c .before .before .loop .rest))
+within c = omega (arith, c .place-of .ensures, place-in 10 (now (c .before .before .loop .rest)))
+
+slice-aggregate-take : tie.Need-slice-aggregate-take Inv-loop μ-loop
+slice-aggregate-take c = sym (length-take-le _ _ (within (c .before)))
+
+take-requires : tie.Need-take-requires Inv-loop μ-loop
+take-requires c κs = search needs
 
 same-length : tie.Need-same-length Inv-loop μ-loop
 same-length c = search needs
 
+-- no line feed is left
 returns : tie.Need-returns Inv-loop μ-loop
 returns c =
-    let p = c .before .before .before .before .before in
-    let l = p .before .before .loop in
-    let s = l .rest .now in
-    let k = c .before .before .carry .ensures in
+    let p = c .before .before .before .before .before .before in
+    let l = c .before .before .before .before .before .before .before .before .loop in
+    let s = now (l .rest) in
+    let n = p .place-of .result in
+    let k = c .before .before .before .take .ensures in
     let h : 0 < length s = omega arith in
-    let f = part-passing (l .run) s (all-plain _ s (p .place-of .ensures) (c .before .before .before .before .if1 .taken)) h in
+    let g : length s ≤ n = omega (arith, c .if1 .taken) in
+    let f = part-passing (l .run) s (all-plain n s (p .place-of .ensures) (c .if1 .taken)) h ∙ sym (ap₂ (lineOf (l .run)) (take-all n s g) (le-ltb n (length s) g)) in
     passed-all (omega (arith, k .few, l .inv .1)) (passed-more s [] (sym (append-nil s)) f (l .inv .2) k)
 
 -- past the test the line feed is there
-there : (c : tie.Else1 Inv-loop μ-loop) → c .before .place-of .result < length (c .before .before .before .loop .rest .now)
-there c = let s = c .before .before .before .loop .rest .now in omega (arith, c .before .place-of .ensures, place-in 10 s, c .if1 .left)
-
-slice-aggregate-line : tie.Need-slice-aggregate-line Inv-loop μ-loop
-slice-aggregate-line c = let h : c .before .before .place-of .result ≤ length (c .before .before .before .before .loop .rest .now) = omega (arith, there (c .before)) in sym (length-take-le _ _ h)
-
-line-requires : tie.Need-line-requires Inv-loop μ-loop
-line-requires c κs = search needs
+there : (c : tie.Else1 Inv-loop μ-loop) → c .before .before .before .before .before .before .place-of .result < length (now (c .before .before .before .before .before .before .before .before .loop .rest))
+there c = omega (arith, within (c .before .before .before .before .before .before), c .if1 .left)
 
 add-rest : tie.Need-add-rest Inv-loop μ-loop
-add-rest c = omega (arith, there (c .before .before .before .before .before .before), c .before .before .before .before .before .before .before .before .before .loop .inv .1)
+add-rest c = omega (arith, there (c .before), c .before .before .before .before .before .before .before .before .before .loop .inv .1)
 
 sub-rest : tie.Need-sub-rest Inv-loop μ-loop
-sub-rest c = omega (arith, there (c .before .before .before .before .before .before))
+sub-rest c = omega (arith, there (c .before))
 
 part-rest-start : tie.Need-part-rest-start Inv-loop μ-loop
-part-rest-start c = omega (arith, there (c .before .before .before .before .before .before))
+part-rest-start c = omega (arith, there (c .before))
 
 part-rest-end : tie.Need-part-rest-end Inv-loop μ-loop
 part-rest-end c = search needs
 
--- how much is left
+-- how much is left after it
 left : (c : tie.After-rest Inv-loop μ-loop) →
     let n = c .before .before .before .before .before .before .before .before .place-of .result in
-    let s = c .before .before .before .before .before .before .before .before .before .before .loop .rest .now in
+    let s = now (c .before .before .before .before .before .before .before .before .before .before .loop .rest) in
     length (take (length s - (n + 1)) (drop (n + 1) s)) ≡ length s - (n + 1)
-left c = let n = c .before .before .before .before .before .before .before .before .place-of .result in let s = c .before .before .before .before .before .before .before .before .before .before .loop .rest .now in ap length (part-left s (n + 1)) ∙ length-drop (n + 1) s
+left c = let n = c .before .before .before .before .before .before .before .before .place-of .result in let s = now (c .before .before .before .before .before .before .before .before .before .before .loop .rest) in ap length (part-left s (n + 1)) ∙ length-drop (n + 1) s
 
 loop-less : tie.Need-loop-less Inv-loop μ-loop
-loop-less c = omega (arith, there (c .before .before .before .before .before .before .before), left c)
+loop-less c = omega (arith, there (c .before .before), left c)
 
 loop-again : tie.Need-loop-again Inv-loop μ-loop
 loop-again c =
-    let t = c .before .before .before .before in
     let l = c .before .before .before .before .before .before .before .before .before .before .loop in
     let n = c .before .before .before .before .before .before .before .before .place-of .result in
-    let s = l .rest .now in
+    let s = now (l .rest) in
     let e = c .before .before .before .before .before .before .before .before .place-of .ensures in
-    let k = there (c .before .before .before .before .before .before .before) in
-    let d = place-split 10 n s e k ∙ ap (λ (x : List _). (take n s ++ (10 ∷ [])) ++ x) (sym (part-left s (n + 1))) in
-    (search needs, omega (arith, t .line .ensures .few, l .inv .1, left c), passed-more (take n s ++ (10 ∷ [])) _ d (line-passing (l .run) (take n s) (feed-plain n s e)) (l .inv .2) (t .line .ensures))
+    let h = there (c .before .before) in
+    let k = c .before .before .before .before .before .take .ensures in
+    let d = place-split 10 n s e h ∙ ap (λ (x : List ℕ). (take n s ++ (10 ∷ [])) ++ x) (sym (part-left s (n + 1))) in
+    let f = line-passing (l .run) (take n s) (feed-plain n s e) ∙ ap (lineOf (l .run) (take n s)) (sym (lt-ltb n (length s) h)) in
+    (search needs, omega (arith, k .few, l .inv .1, left c), passed-more (take n s ++ (10 ∷ [])) _ d f (l .inv .2) k)
 
 same-length-2 : tie.Need-same-length-2 Inv-loop μ-loop
 same-length-2 c = c .before .loop .inv .0
@@ -93,7 +100,7 @@ same-length-2 c = c .before .loop .inv .0
 returns-2 : tie.Need-returns-2 Inv-loop μ-loop
 returns-2 c =
     let l = c .before .loop in
-    let e : l .rest .now ≡ [] = drop-of-length-le (l .rest .now) (c .loop-test .left) in
+    let e : now (l .rest) ≡ [] = drop-of-length-le (now (l .rest)) (c .loop-test .left) in
     passed-all (omega (arith, l .inv .1)) (rw e at (l .inv .2))
 
 pub pass-spec : {M : Type 1} → statement M
@@ -104,11 +111,10 @@ pass-spec =
     μ-loop
     loop-holds
     place-of-requires
-    carry-requires
+    slice-aggregate-take
+    take-requires
     same-length
     returns
-    slice-aggregate-line
-    line-requires
     add-rest
     sub-rest
     part-rest-start
