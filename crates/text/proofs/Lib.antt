@@ -1,4 +1,5 @@
 pub mod Lists
+pub mod Words
 pub mod Digits
 pub mod Signs
 pub mod Decimals
@@ -9,6 +10,5 @@ pub mod Texts
 pub mod Longest
 pub mod Writes
 pub mod Trip
-pub mod Values
 pub mod SettingsC
 pub mod promises

@@ -13,11 +13,14 @@ use Rattle.whole.specs.Numbers.{inside}
 use Rattle.whole.proofs.Truth.{never, both, and}
 use Rattle.whole.proofs.Parts.{zs, yes-le}
 use Rattle.whole.proofs.Lin.{Lin, at, lin-add, lin-pos}
-use Rattle.pid.specs.declared.settings.Row.{Row}
-use Rattle.pid.specs.declared.settings.Settings.{Settings}
-use Rattle.pid.specs.Settings.{row, rows, noRow, inRow, allIn, inTable, ordered, valuesOf}
+use Rattle.settings.specs.declared.table.Row.{Row}
+use Rattle.settings.specs.declared.Settings.{Settings}
+use Rattle.settings.specs.Table.{rows, noRow, inRow}
+use Rattle.settings.specs.Settings.{allIn, inTable, ordered, valuesOf}
+use Rattle.settings.proofs.Rows.{rows-long}
+use Rattle.settings.proofs.Ranges.{all-at}
 use Rattle.text.specs.Decimal.{digits, shown, decimal}
-use Rattle.text.specs.Lines.{keyOf, linesOf, textOf}
+use Rattle.text.specs.Lines.{keyOf, linesOf, textOf, longestText}
 use Rattle.text.proofs.Decimals.{fuel, shown-last}
 
 -- ---- a larger number has at least as many digits
@@ -65,13 +68,6 @@ lines-long (r ∷ rs) (z ∷ vs) e =
     let h = lines-long rs vs (b .1) in
     simp length-append (omega arith)
 
--- what the table says of one value
-in-at : (rs : List Row) (vs : List ℤ) (i : ℕ) → i < length rs → allIn rs vs ≡ true → inRow (getD rs i noRow) (getD vs i (pos 0)) ≡ true
-in-at [] vs i h e = absurd (omega arith)
-in-at (r ∷ rs) [] i h e = never e
-in-at (r ∷ rs) (z ∷ vs) zero h e = both (inRow r z) (allIn rs vs) e .0
-in-at (r ∷ rs) (z ∷ vs) (suc i) h e = in-at rs vs i (omega arith) (both (inRow r z) (allIn rs vs) e .1)
-
 -- one row in the place of another
 in-set : (rs : List Row) (vs : List ℤ) (i : ℕ) (q : Row) → allIn rs vs ≡ true → inRow q (getD vs i (pos 0)) ≡ true → allIn (set rs i q) vs ≡ true
 in-set [] vs i q e g = refl
@@ -87,14 +83,19 @@ above least lo hi p q = let a : Lin (least +ℤ pos 1) = lin-add (at least) lin-
 
 -- the row of hi, and what its least value then is
 abbrev hiRow : Row
-hiRow = row (getD rows 2 noRow .0) (getD rows 2 noRow .1) (getD rows 1 noRow .2 +ℤ pos 1) (getD rows 2 noRow .3)
+hiRow = record {
+  0 = getD rows 2 noRow .0;
+  1 = getD rows 2 noRow .1;
+  2 = getD rows 1 noRow .2 +ℤ pos 1;
+  3 = getD rows 2 noRow .3;
+}
 
 -- "The longest text has 306 bytes."
-pub text-long : (s : Settings) → inTable s ≡ true → ordered s ≡ true → length (textOf s) ≤ 306
+pub text-long : (s : Settings) → inTable s ≡ true → ordered s ≡ true → length (textOf s) ≤ longestText
 unfolding inTable textOf rows noRow shown
 text-long s e o =
-    let lo = in-at rows (valuesOf s) 1 (omega arith) e in
-    let hi = in-at rows (valuesOf s) 2 (omega arith) e in
+    let lo = all-at rows (valuesOf s) e 1 (omega (arith, rows-long)) in
+    let hi = all-at rows (valuesOf s) e 2 (omega (arith, rows-long)) in
     let lo-least = both (leZ (getD rows 1 noRow .2) (s .lo)) (leZ (s .lo) (getD rows 1 noRow .3)) lo .0 in
     let hi-most = both (leZ (getD rows 2 noRow .2) (s .hi)) (leZ (s .hi) (getD rows 2 noRow .3)) hi .1 in
     let lower = both (ltZ (s .lo) (s .hi)) (inside (s .lo) (s .hi) (s .out)) o .0 in

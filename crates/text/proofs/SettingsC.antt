@@ -1,26 +1,20 @@
 -- The text of 01's settings C, and settings whose text is the longest.
 use Prim.Native.Nat.{ℕ}
-use Prim.Native.String.{String, [] as end, _∷_ as _then_}
-use Prim.Native.Char.{code}
 use mathlib.Core.Path.{_≡_, refl}
-use mathlib.Core.List.{List, [], _∷_, _++_}
+use mathlib.Core.List.{List, _++_}
 use lib.IntN.{pos, negsuc}
-use lib.ListN.{length}
-use Rattle.pid.specs.declared.settings.Gains.{Gains}
-use Rattle.pid.specs.declared.settings.Settings.{Settings}
-use Rattle.pid.specs.Settings.{rows}
-use Rattle.pid.specs.Bench.{gainSet, settingsC}
+use lib.ListN.{length, replicate}
+use Rattle.settings.specs.declared.Gains.{Gains}
+use Rattle.settings.specs.declared.Settings.{Settings}
+use Rattle.settings.specs.Words.{bytes}
+use Rattle.settings.specs.Table.{gain, share, sets, rows}
+use Rattle.settings.specs.SettingsC.{gainSet, settingsC}
 use Rattle.text.specs.Decimal.{isSize, hasMinus, unsigned, sizeOf, isDecimal, numberOf, shown}
-use Rattle.text.specs.Lines.{textOf}
+use Rattle.text.specs.Lines.{textOf, longestText}
 use Rattle.text.specs.Reader.{lineIn, ended, afterLine, wordIn, formed, lineCode, lineValue, readEnd, readText}
 
--- the bytes of a quoted text
-abbrev pub bytes : String → List ℕ
-bytes end = []
-bytes (c then s) = code c ∷ bytes s
-
 abbrev widest : Gains
-widest = gainSet 4194304 4194304 4194304 65536 65536
+widest = gainSet gain gain gain share share
 
 abbrev pub textC : List ℕ
 textC =
@@ -47,10 +41,10 @@ longest = record {
   out = negsuc 999999;
   sp = negsuc 999999;
   rate = pos 2000000;
-  gains = widest ∷ widest ∷ widest ∷ widest ∷ [];
+  gains = replicate sets widest;
 }
 
-pub longest-written : length (textOf longest) ≡ 306
+pub longest-written : length (textOf longest) ≡ longestText
 unfolding textOf rows shown
 longest-written = refl
 

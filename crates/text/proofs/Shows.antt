@@ -9,9 +9,10 @@ use lib.ListN.{length, take, drop, set, replicate, length-replicate, length-appe
 use lib.Seq.{sets, drop-at, take-all}
 use mir.Syntax.{w32}
 use mir.Val.{SFits}
-use Rattle.pid.specs.declared.settings.Row.{Row}
+use Rattle.settings.specs.declared.table.Row.{Row}
+use Rattle.settings.specs.Table.{longestKey}
 use Rattle.text.specs.declared.decimal.Shown.{Shown}
-use Rattle.text.specs.Decimal.{shown, decimal, padded}
+use Rattle.text.specs.Decimal.{decimalRoom, shown, decimal, padded}
 use Rattle.text.specs.Lines.{lineOf}
 use Rattle.text.proofs.Decimals.{front, front-some, shown-last, shown-form}
 use Rattle.text.proofs.Signs.{abs-fits}
@@ -23,7 +24,7 @@ set-zeros (suc k) w b = ap (λ (s : List ℕ). 0 ∷ s) (set-zeros k w b)
 
 -- what stands at the end of eleven bytes: text, from place from on
 pub record Ends (from : ℕ) (bytes text : List ℕ) : Type 0 where
-  pub long : from + length text ≡ 11
+  pub long : from + length text ≡ decimalRoom
   pub are : bytes ≡ replicate from 0 ++ text
 
 pub ends-more : (from : ℕ) (bytes text : List ℕ) (b : ℕ) → 0 < from → Ends from bytes text → Ends (from - 1) (set bytes (from - 1) b) (b ∷ text)
@@ -34,7 +35,7 @@ ends-more (suc k) bytes text b h e =
 
 pub ends-padded : {from : ℕ} {bytes text : List ℕ} → Ends from bytes text → record { bytes = bytes; from = from } ≡ padded text
 ends-padded {from} {bytes} {text} e =
-    let q : 11 - length text ≡ from = omega (arith, e .long) in
+    let q : decimalRoom - length text ≡ from = omega (arith, e .long) in
     rw (q, e .are)
 
 -- the digits of n but for those of left, which are still to be put before them
@@ -44,7 +45,7 @@ pub record Partly (n left from : ℕ) (bytes : List ℕ) : Type 0 where
   pub room : left < 10 ^ from
   pub digits : shown n ≡ front left ++ tail
 
-pub partly-place : {n left from : ℕ} {bytes : List ℕ} → 0 < left → Partly n left from bytes → (0 < from) × (from ≤ 11)
+pub partly-place : {n left from : ℕ} {bytes : List ℕ} → 0 < left → Partly n left from bytes → (0 < from) × (from ≤ decimalRoom)
 partly-place {from = zero} h p = absurd (omega (arith, p .room))
 partly-place {from = suc k} h p = omega (arith, p .ends .long)
 
@@ -65,12 +66,12 @@ partly-all n from bytes p = rw (p .digits) (p .ends)
 pub padded-more : (w : List ℕ) (b : ℕ) → length w ≤ 10 →
     record { bytes = set (padded w .bytes) (padded w .from - 1) b; from = padded w .from - 1 } ≡ padded (b ∷ w)
 padded-more w b h =
-    ends-padded (ends-more (11 - length w) (padded w .bytes) w b (omega arith) (record { long = omega arith; are = refl }))
+    ends-padded (ends-more (decimalRoom - length w) (padded w .bytes) w b (omega arith) (record { long = omega arith; are = refl }))
 
 -- a decimal of 32 bits has at most eleven bytes
-pub decimal-room : (z : ℤ) → SFits w32 z → length (decimal z) ≤ 11
+pub decimal-room : (z : ℤ) → SFits w32 z → length (decimal z) ≤ decimalRoom
 decimal-room z f = let h = abs-fits z f .fits in at z h where
-  at : (x : ℤ) → natAbs x < 2 ^ 32 → length (decimal x) ≤ 11
+  at : (x : ℤ) → natAbs x < 2 ^ 32 → length (decimal x) ≤ decimalRoom
   at (pos n) h = omega (arith, shown-form n .few 10 (omega arith) (omega arith))
   at (negsuc n) h = omega (arith, shown-form (suc n) .few 10 (omega arith) (omega arith))
 
@@ -79,19 +80,13 @@ pub shown-room : (n : ℕ) → n < 2 ^ 32 → length (shown n) ≤ 10
 shown-room n h = shown-form n .few 10 (omega arith) (omega arith)
 
 -- what is put of eleven bytes is the text that stands at their end
-pub shown-stored : {l₁ : List ℕ} {n : ℕ} {s : Shown} (l₀ : List ℕ) (at : ℕ) (w : List ℕ) → length w ≤ 11 → s ≡ padded w →
-    (n ≡ 11 - s .from) × (l₁ ≡ sets l₀ at (drop (s .from) (s .bytes))) → (n ≡ length w) × (l₁ ≡ sets l₀ at w)
+pub shown-stored : {l₁ : List ℕ} {n : ℕ} {s : Shown} (l₀ : List ℕ) (at : ℕ) (w : List ℕ) → length w ≤ decimalRoom → s ≡ padded w →
+    (n ≡ decimalRoom - s .from) × (l₁ ≡ sets l₀ at (drop (s .from) (s .bytes))) → (n ≡ length w) × (l₁ ≡ sets l₀ at w)
 shown-stored {l₁} {n} {s} l₀ at w h e p =
-    let k = 11 - length w in
+    let k = decimalRoom - length w in
     let q = rw e at p in
     (omega (arith, q .0), q .1 ∙ ap (sets l₀ at) (drop-at (replicate k 0) w k (length-replicate k 0)))
 
--- the text's part of the eleven bytes
-pub padded-part : (w : List ℕ) → length w ≤ 11 → take (11 - padded w .from) (drop (padded w .from) (padded w .bytes)) ≡ w
-padded-part w h =
-    let k = 11 - length w in
-    ap (take (11 - k)) (drop-at (replicate k 0) w k (length-replicate k 0)) ∙ take-all (11 - k) w (omega arith)
-
--- a line of the settings has at most 19
-pub line-short : (r : Row) (z : ℤ) → r .1 ≤ 7 → SFits w32 z → length (lineOf r z) ≤ 19
+-- a line of the settings is a key, a decimal and a line feed
+pub line-short : (r : Row) (z : ℤ) → r .1 ≤ longestKey → SFits w32 z → length (lineOf r z) ≤ longestKey + decimalRoom + 1
 line-short r z h f = simp (length-append, length-take) (omega (arith, decimal-room z f))

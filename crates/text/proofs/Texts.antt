@@ -10,16 +10,18 @@ use lib.Dec.{ltb, eqb}
 use lib.IntN.{ℤ, pos}
 use lib.ListN.{length, take, drop, length-drop}
 use Rattle.whole.proofs.Truth.{both, never, chosen, by-test, zero-if, zero-then}
-use Rattle.pid.specs.declared.settings.Row.{Row}
-use Rattle.pid.specs.declared.settings.Settings.{Settings}
-use Rattle.pid.specs.Settings.{rows, inRow, settingsOf, ordered}
+use Rattle.settings.specs.declared.table.Row.{Row}
+use Rattle.settings.specs.declared.Settings.{Settings}
+use Rattle.settings.specs.Table.{lines, rows, inRow}
+use Rattle.settings.specs.Settings.{settingsOf, ordered}
 use Rattle.text.specs.declared.reader.Line.{Line}
 use Rattle.text.specs.declared.reader.Reading.{Reading}
 use Rattle.text.specs.declared.decimal.Decimal.the-variants.{Is, Wrong}
 use Rattle.text.specs.Decimal.{numberOf, decimalOf}
 use Rattle.text.specs.Lines.{keyOf}
-use Rattle.text.specs.Reader.{lineEnd, lineIn, ended, begins, wordIn, formed, valueIn, lineValue, lineCode, lineRead, afterLine, refused, readEnd, readFrom, readText}
-use Rattle.text.proofs.Lists.{part-left}
+use Rattle.text.specs.Reader.{endAt, feed, lineIn, ended, begins, wordIn, formed, valueIn, lineValue, lineCode, lineRead, afterLine, refused, readEnd, readFrom, readText}
+use Rattle.settings.proofs.Rows.{rows-long}
+use Rattle.text.proofs.Words.{part-after}
 use Rattle.text.proofs.Rows.{rows-done}
 
 -- ---- one line
@@ -38,10 +40,6 @@ module _ (r : Row) (l : List ℕ) where
   pub begun : begins (keyOf r) l ≡ true → valueIn r l ≡ decimalOf (wordIn r l)
   unfolding formed
   begun e = rw e
-
-pub end-in : (s : List ℕ) → lineEnd s ≤ length s
-end-in [] = omega arith
-end-in (b ∷ s) = chosen (λ (n : ℕ). n ≤ suc (length s)) (eqb b 10) (λ _. omega arith) (λ _. omega (arith, end-in s))
 
 not-picked : (b : Bool) (x : ℤ) → cond b (Is x) Wrong ≡ Wrong → b ≡ false
 not-picked true x e = cc
@@ -96,14 +94,14 @@ line-yes r s e =
     let b = both (ended s) (formed r (lineIn s)) (f .0) in
     record { closed = b .0; form = b .1; range = zero-then (inRow r (lineValue r s)) 14 (f .1) }
 
-pub feed-there : (s : List ℕ) → ended s ≡ true → lineEnd s < length s
+pub feed-there : (s : List ℕ) → ended s ≡ true → endAt feed s < length s
 unfolding ended
-feed-there s e = ltb-true (lineEnd s) (length s) e
+feed-there s e = ltb-true (endAt feed s) (length s) e
 
 -- the part from behind a line feed
-pub part-after : (s : List ℕ) (end : ℕ) → end ≡ lineEnd s → take (length s - (end + 1)) (drop (end + 1) s) ≡ afterLine s
+pub part-line : (s : List ℕ) (end : ℕ) → end ≡ endAt feed s → take (length s - (end + 1)) (drop (end + 1) s) ≡ afterLine s
 unfolding afterLine
-part-after s end e = part-left s (end + 1) ∙ rw e
+part-line s end e = part-after feed s end e
 
 pub after-shorter : (s : List ℕ) → length (afterLine s) ≤ length s
 unfolding afterLine
@@ -138,7 +136,7 @@ end-yes vs left e = by-test (ltb 0 left)
 -- ---- the text
 
 module _ (n : ℕ) (vs : List ℤ) (s : List ℕ) where
-  pub lines-done : (i : ℕ) → 26 ≤ i → readFrom (drop i rows) n vs s ≡ readEnd vs (length s)
+  pub lines-done : (i : ℕ) → lines ≤ i → readFrom (drop i rows) n vs s ≡ readEnd vs (length s)
   lines-done i h = ap (λ (rs : List Row). readFrom rs n vs s) (rows-done i h)
 
   module _ (r : Row) (rs : List Row) where
@@ -165,9 +163,9 @@ line-codes r s =
 -- what holds of each kind of answer holds of what is read
 module _ (P : Reading → Type 0)
     (done : (s : Settings) → P (record { code = 0; line = 0; settings = s }))
-    (at-line : (code n : ℕ) → (code ≡ 14) ⊎ (code ≡ 15) → 1 ≤ n → n ≤ 26 → P (refused code n))
+    (at-line : (code n : ℕ) → (code ≡ 14) ⊎ (code ≡ 15) → 1 ≤ n → n ≤ lines → P (refused code n))
     (at-end : (code : ℕ) → (code ≡ 17) ⊎ (code ≡ 16) → P (refused code 0)) where
-  lines-answer : (rs : List Row) (n : ℕ) (vs : List ℤ) (s : List ℕ) → 1 ≤ n → n + length rs ≤ 27 → P (readFrom rs n vs s)
+  lines-answer : (rs : List Row) (n : ℕ) (vs : List ℤ) (s : List ℕ) → 1 ≤ n → n + length rs ≤ lines + 1 → P (readFrom rs n vs s)
   unfolding readEnd
   lines-answer [] n vs s h k =
       chosen P (ltb 0 (length s)) (λ _. at-end 17 (inl refl))
@@ -178,5 +176,5 @@ module _ (P : Reading → Type 0)
       (λ f. at-line (lineCode r s) n (line-codes r s (eqb-false (lineCode r s) 0 f)) h (omega arith))
 
   pub text-answer : (s : List ℕ) → P (readText s)
-  unfolding readText rows
-  text-answer s = lines-answer rows 1 [] s (omega arith) (omega arith)
+  unfolding readText
+  text-answer s = lines-answer rows 1 [] s (omega arith) (omega (arith, rows-long))

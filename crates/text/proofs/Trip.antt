@@ -14,76 +14,56 @@ use lib.Seq.{take-at, drop-at, drop-append-add, length-take-le}
 use Rattle.whole.proofs.Truth.{both, and, never}
 use Rattle.whole.specs.Numbers.{inside}
 use Rattle.whole.proofs.Parts.{zs, inside-yes}
-use Rattle.pid.specs.declared.settings.Row.{Row}
-use Rattle.pid.specs.declared.settings.Settings.{Settings}
-use Rattle.pid.specs.Settings.{sets, rows, inRow, allIn, inTable, settingsRefusal, valuesOf, settingsOf}
+use Rattle.settings.specs.declared.table.Row.{Row}
+use Rattle.settings.specs.declared.Settings.{Settings}
+use Rattle.settings.specs.Table.{sets, lines, rows, inRow}
+use Rattle.settings.specs.Settings.{allIn, inTable, settingsRefusal, valuesOf, settingsOf}
+use Rattle.settings.proofs.Rows.{rows-long, values-long}
+use Rattle.settings.proofs.Values.{values-settings, settings-values}
 use Rattle.text.specs.declared.reader.Reading.{Reading}
 use Rattle.text.specs.Decimal.{isDigit, allDigits, isDecimal, numberOf, shown, decimal}
 use Rattle.text.specs.Lines.{keyOf, lineOf, linesOf, textOf}
-use Rattle.text.specs.Reader.{lineEnd, lineIn, ended, afterLine, begins, wordIn, formed, lineCode, lineValue, refused, readEnd, readFrom, readText}
+use Rattle.text.specs.Reader.{endAt, feed, lineIn, ended, afterLine, begins, wordIn, formed, lineCode, lineValue, refused, readEnd, readFrom, readText}
+use Rattle.text.proofs.Words.{without, without-both, end-without, before-first, after-first, at-byte}
 use Rattle.text.proofs.Digits.{digit}
 use Rattle.text.proofs.Decimals.{shown-form, decimal-read, read-decimal}
 use Rattle.text.proofs.Rows.{all, all-take, rows-next}
-use Rattle.text.proofs.Values.{values-settings, settings-values}
 use Rattle.text.proofs.Writes.{sound}
 use Rattle.text.proofs.Texts.{line-yes, feed-there, end-yes, end-taken, line-taken, first-taken}
 
 -- ---- bytes without a line feed
 
-abbrev pub plain : List ℕ → Bool
-plain [] = true
-plain (b ∷ w) = not (eqb b 10) && plain w
-
-plain-both : (v w : List ℕ) → plain v ≡ true → plain w ≡ true → plain (v ++ w) ≡ true
-plain-both [] w p q = q
-plain-both (b ∷ v) w p q = let t = both (not (eqb b 10)) (plain v) p in and (t .0) (plain-both v w (t .1) q)
+abbrev plain : List ℕ → Bool
+plain w = without feed w
 
 plain-digits : (w : List ℕ) → allDigits w ≡ true → plain w ≡ true
 plain-digits [] e = refl
 plain-digits (b ∷ w) e =
     let t = both (isDigit b) (allDigits w) e in
     let d = digit b (t .0) in
-    and (ap not (ne-eqb b 10 (λ q. omega arith))) (plain-digits w (t .1))
+    and (ap not (ne-eqb b feed (λ q. omega arith))) (plain-digits w (t .1))
 
 plain-decimal : (z : ℤ) → plain (decimal z) ≡ true
 plain-decimal (pos n) = plain-digits (shown n) (shown-form n .all)
 plain-decimal (negsuc n) = plain-digits (shown (suc n)) (shown-form (suc n) .all)
 
-end-plain : (w s : List ℕ) → plain w ≡ true → lineEnd (w ++ (10 ∷ s)) ≡ length w
-end-plain [] s e = refl
-end-plain (b ∷ w) s e =
-    let t = both (not (eqb b 10)) (plain w) e in
-    rw (not-true (eqb b 10) (t .0)) (ap suc (end-plain w s (t .1)))
-
 -- a text that begins with such bytes and a line feed
 module _ (w s : List ℕ) (e : plain w ≡ true) where
-  line-first : lineIn (w ++ (10 ∷ s)) ≡ w
+  line-first : lineIn (w ++ (feed ∷ s)) ≡ w
   unfolding lineIn
-  line-first = take-at w (10 ∷ s) (lineEnd (w ++ (10 ∷ s))) (sym (end-plain w s e))
+  line-first = before-first feed w s e
 
-  line-ended : ended (w ++ (10 ∷ s)) ≡ true
+  line-ended : ended (w ++ (feed ∷ s)) ≡ true
   unfolding ended
-  line-ended = lt-ltb (lineEnd (w ++ (10 ∷ s))) (length (w ++ (10 ∷ s))) (rw (end-plain w s e, length-append w (10 ∷ s)) (omega arith))
+  line-ended = lt-ltb (endAt feed (w ++ (feed ∷ s))) (length (w ++ (feed ∷ s))) (rw (end-without feed w s e, length-append w (feed ∷ s)) (omega arith))
 
-  line-after : afterLine (w ++ (10 ∷ s)) ≡ s
+  line-after : afterLine (w ++ (feed ∷ s)) ≡ s
   unfolding afterLine
-  line-after = rw (end-plain w s e) (drop-append-add w (10 ∷ s) 1)
+  line-after = after-first feed w s e
 
--- a text in which there is a line feed
-at-feed : (s : List ℕ) → lineEnd s < length s → s ≡ take (lineEnd s) s ++ (10 ∷ drop (lineEnd s + 1) s)
-at-feed [] h = absurd (omega arith)
-at-feed (b ∷ s) h = go (eqb b 10) refl h (at-feed s) where
-  go : (t : Bool) → eqb b 10 ≡ t → cond t 0 (suc (lineEnd s)) < suc (length s) →
-      (lineEnd s < length s → s ≡ take (lineEnd s) s ++ (10 ∷ drop (lineEnd s + 1) s)) →
-      b ∷ s ≡ take (cond t 0 (suc (lineEnd s))) (b ∷ s) ++ (10 ∷ drop (cond t 0 (suc (lineEnd s)) + 1) (b ∷ s))
-  go true p k ih = ap (λ (x : ℕ). x ∷ s) (eqb-true b 10 p)
-  go false p k ih =
-      let q : suc (lineEnd s) + 1 ≡ suc (lineEnd s + 1) = omega arith in
-      rw q (ap (λ (x : List ℕ). b ∷ x) (ih (omega arith)))
-
-line-split : (s : List ℕ) → ended s ≡ true → s ≡ lineIn s ++ (10 ∷ afterLine s)
+line-split : (s : List ℕ) → ended s ≡ true → s ≡ lineIn s ++ (feed ∷ afterLine s)
 unfolding lineIn afterLine
-line-split s e = at-feed s (feed-there s e)
+line-split s e = at-byte feed s (feed-there s e)
 
 -- ---- one line
 
@@ -128,8 +108,8 @@ line-read r z s l i =
     let n = both (leZ (negsuc 9999998) (r .2)) (leZ (r .3) (pos 9999999)) (p .1) in
     let h = small z (r .2) (r .3) (n .0) (n .1) i in
     let w = keyOf r ++ decimal z in
-    let e : plain w ≡ true = plain-both (keyOf r) (decimal z) (p .0) (plain-decimal z) in
-    let q : lineOf r z ++ s ≡ w ++ (10 ∷ s) = simp append-assoc in
+    let e : plain w ≡ true = without-both feed (keyOf r) (decimal z) (p .0) (plain-decimal z) in
+    let q : lineOf r z ++ s ≡ w ++ (feed ∷ s) = simp append-assoc in
     let v : numberOf (wordIn r w) ≡ z = ap numberOf (word-written r (decimal z)) ∙ decimal-read z h .number in
     record {
       code = rw (q, line-ended w s e, line-first w s e, form-written r z h, v, i);
@@ -145,7 +125,7 @@ line-back r s e =
     let f = both (begins (keyOf r) (lineIn s)) (isDecimal (wordIn r (lineIn s))) (a .form) in
     let d = read-decimal (wordIn r (lineIn s)) (f .1) .same in
     let l = begins-split (keyOf r) (lineIn s) (f .0) ∙ ap (λ (x : List ℕ). keyOf r ++ x) (sym d) in
-    line-split s (a .closed) ∙ ap (λ (x : List ℕ). x ++ (10 ∷ afterLine s)) l ∙ simp append-assoc
+    line-split s (a .closed) ∙ ap (λ (x : List ℕ). x ++ (feed ∷ afterLine s)) l ∙ simp append-assoc
 
 -- ---- the lines
 
@@ -191,15 +171,15 @@ lines-back (r ∷ rs) n before s e =
       end = t ∙ w .end ∙ ap (λ (x : List ℤ). readEnd x 0) (append-assoc before (lineValue r s ∷ []) (valuesIn rs (afterLine s)));
     }
 
-values-long : (rs : List Row) (s : List ℕ) → length (valuesIn rs s) ≡ length rs
-values-long [] s = refl
-values-long (r ∷ rs) s = ap suc (values-long rs (afterLine s))
+valued : (rs : List Row) (s : List ℕ) → length (valuesIn rs s) ≡ length rs
+valued [] s = refl
+valued (r ∷ rs) s = ap suc (valued rs (afterLine s))
 
 -- ---- the text
 
-rows-lined : (all lined rows ≡ true) × (length rows ≡ 26)
+rows-lined : all lined rows ≡ true
 unfolding rows
-rows-lined = (refl, refl)
+rows-lined = refl
 
 -- the text of settings that nothing is wrong with is read as these settings
 pub text-read : (s : Settings) → length (s .gains) ≡ sets → settingsRefusal s ≡ 0 → readText (textOf s) ≡ record { code = 0; line = 0; settings = s }
@@ -208,23 +188,23 @@ text-read s g e =
     let t = sound s e in
     let vs = valuesOf s in
     sym (ap₂ (λ (rs : List Row) (x : List ℕ). readFrom rs 1 [] x) (append-nil rows) (append-nil (linesOf rows vs)))
-    ∙ lines-read rows [] 1 [] vs [] (rows-lined .0) (t .within) (sym (rows-lined .1))
+    ∙ lines-read rows [] 1 [] vs [] (rows-lined) (t .within) (values-long s g ∙ sym rows-long)
     ∙ end-taken vs 0 refl (t .order)
     ∙ ap (λ (x : Settings). record { code = 0; line = 0; settings = x }) (settings-values s g)
 
 -- a text whose lines are right up to line k is read as what is left of it, from line k + 1 on
-pub first-lines : (k : ℕ) (vs : List ℤ) (s : List ℕ) → k ≤ 26 → length vs ≡ k → allIn (take k rows) vs ≡ true →
+pub first-lines : (k : ℕ) (vs : List ℤ) (s : List ℕ) → k ≤ lines → length vs ≡ k → allIn (take k rows) vs ≡ true →
     readText (linesOf (take k rows) vs ++ s) ≡ readFrom (drop k rows) (k + 1) vs s
 unfolding readText
 first-lines k vs s h e i =
-    let n : length (take k rows) ≡ k = length-take-le k rows (omega (arith, rows-lined .1)) in
+    let n : length (take k rows) ≡ k = length-take-le k rows (omega (arith, rows-long)) in
     let m : 1 + length (take k rows) ≡ k + 1 = omega arith in
     ap (λ (rs : List Row). readFrom rs 1 [] (linesOf (take k rows) vs ++ s)) (sym (take-append-drop k rows))
-    ∙ lines-read (take k rows) (drop k rows) 1 [] vs s (all-take lined rows k (rows-lined .0)) i (e ∙ sym n)
+    ∙ lines-read (take k rows) (drop k rows) 1 [] vs s (all-take lined rows k (rows-lined)) i (e ∙ sym n)
     ∙ ap (λ (x : ℕ). readFrom (drop k rows) x vs s) m
 
 -- and where nothing is left of it, line k + 1 is of wrong form
-pub text-stops : (k : ℕ) (vs : List ℤ) → k < 26 → length vs ≡ k → allIn (take k rows) vs ≡ true →
+pub text-stops : (k : ℕ) (vs : List ℤ) → k < lines → length vs ≡ k → allIn (take k rows) vs ≡ true →
     readText (linesOf (take k rows) vs) ≡ refused 14 (k + 1)
 unfolding lineCode ended
 text-stops k vs h e i =
@@ -244,7 +224,7 @@ text-back text e =
     let t = lines-back rows 1 [] text e in
     let vs = valuesIn rows text in
     let o = end-yes vs 0 (sym (ap (λ (x : Reading). x .code) (t .end)) ∙ e) .order in
-    let v : valuesOf (settingsOf vs) ≡ vs = values-settings vs (values-long rows text ∙ rows-lined .1) in
+    let v : valuesOf (settingsOf vs) ≡ vs = values-settings vs (valued rows text ∙ rows-long) in
     let a : Again text (settingsOf vs) =
     record { four = refl; right = rw (v, t .within, o); same = t .same ∙ ap (linesOf rows) (sym v) } in
     subst (Again text) (sym (ap (λ (x : Reading). x .settings) (t .end ∙ end-taken vs 0 refl o))) a

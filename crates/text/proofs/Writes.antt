@@ -8,10 +8,10 @@ use borrow.Author.Tests.{lt-ltb, le-ltb, ltb-false, eq-eqb, ne-eqb}
 use lib.Dec.{ltb, eqb}
 use lib.ListN.{length, drop}
 use Rattle.whole.proofs.Truth.{zero-if, zero-else, zero-then}
-use Rattle.pid.specs.declared.settings.Settings.{Settings}
-use Rattle.pid.specs.Settings.{inTable, ordered, settingsRefusal}
+use Rattle.settings.specs.declared.Settings.{Settings}
+use Rattle.settings.specs.Settings.{inTable, ordered, settingsRefusal}
 use Rattle.text.specs.declared.writer.Written.{Written}
-use Rattle.text.specs.Lines.{textOf}
+use Rattle.text.specs.Lines.{textOf, longestText}
 use Rattle.text.specs.Writer.{writeCode, writtenOf, bufferAfter}
 use Rattle.text.proofs.Longest.{text-long}
 
@@ -41,7 +41,7 @@ module _ (s : Settings) (buffer : List ℕ) where
       let c : writeCode s (length buffer) ≡ 0 = rw (eq-eqb (settingsRefusal s) 0 e, le-ltb (length buffer) (length (textOf s)) h) in
       record { says = rw c; holds = rw c }
 
--- settings that nothing is wrong with have a text of at most 306 bytes
+-- settings that nothing is wrong with have a text of at most so many bytes
 pub record Sound (s : Settings) : Type 0 where
   pub within : inTable s ≡ true
   pub order : ordered s ≡ true
@@ -51,7 +51,7 @@ sound s e =
     let t = zero-if (inTable s) (cond (ordered s) 0 16) 10 e in
     record { within = t .0; order = zero-then (ordered s) 15 (t .1) }
 
-pub sound-long : (s : Settings) → settingsRefusal s ≡ 0 → length (textOf s) ≤ 306
+pub sound-long : (s : Settings) → settingsRefusal s ≡ 0 → length (textOf s) ≤ longestText
 sound-long s e = let t = sound s e in text-long s (t .within) (t .order)
 
 -- ---- a code that is 0: nothing is wrong with the settings, and the text fits

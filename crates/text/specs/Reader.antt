@@ -5,8 +5,9 @@ use mathlib.Core.List.{List, [], _∷_, _++_}
 use lib.Dec.{ltb, eqb}
 use lib.IntN.{ℤ, pos}
 use lib.ListN.{length, take, drop}
-use Rattle.pid.specs.declared.settings.Row.{Row}
-use Rattle.pid.specs.Settings.{rows, inRow, settingsOf, blankSettings, ordered}
+use Rattle.settings.specs.declared.table.Row.{Row}
+use Rattle.settings.specs.Table.{rows, inRow}
+use Rattle.settings.specs.Settings.{settingsOf, blankSettings, ordered}
 use Rattle.text.specs.declared.decimal.Decimal.{Decimal}
 use Rattle.text.specs.declared.decimal.Decimal.the-variants.{Is, Wrong}
 use Rattle.text.specs.declared.reader.Line.{Line}
@@ -16,22 +17,26 @@ use Rattle.text.specs.Lines.{keyOf}
 
 -- ---- the first line of what is left of a text
 
--- the place of the first line feed (byte 10), or the length where there is none
-abbrev pub lineEnd : List ℕ → ℕ
-lineEnd [] = 0
-lineEnd (b ∷ s) = cond (eqb b 10) 0 (suc (lineEnd s))
+-- the place of the first such byte, or the length where there is none
+abbrev pub endAt : ℕ → List ℕ → ℕ
+endAt byte [] = 0
+endAt byte (b ∷ s) = cond (eqb b byte) 0 (suc (endAt byte s))
+
+-- "one line feed (byte 10)"
+abbrev pub feed : ℕ
+feed = 10
 
 -- the bytes before the line feed
 unfoldable pub lineIn : List ℕ → List ℕ
-lineIn s = take (lineEnd s) s
+lineIn s = take (endAt feed s) s
 
 -- whether there is a line feed. "Text that stops early" has none
 unfoldable pub ended : List ℕ → Bool
-ended s = ltb (lineEnd s) (length s)
+ended s = ltb (endAt feed s) (length s)
 
 -- what stands after the line feed
 unfoldable pub afterLine : List ℕ → List ℕ
-afterLine s = drop (lineEnd s + 1) s
+afterLine s = drop (endAt feed s + 1) s
 
 -- ---- one line
 

@@ -4,8 +4,8 @@ use mathlib.Core.Bool.{cond}
 use mathlib.Core.List.{List, _++_}
 use lib.Dec.{ltb, eqb}
 use lib.ListN.{length, drop}
-use Rattle.pid.specs.declared.settings.Settings.{Settings}
-use Rattle.pid.specs.Settings.{settingsRefusal}
+use Rattle.settings.specs.declared.Settings.{Settings}
+use Rattle.settings.specs.Settings.{settingsRefusal}
 use Rattle.text.specs.declared.writer.Written.{Written}
 use Rattle.text.specs.Lines.{textOf}
 

@@ -1,10 +1,11 @@
 // The settings' reader.
 ghost use mathlib.Core.Path.{_≡_};
 ghost use Prim.Native.Nat.{_≤_};
-ghost use Rattle.text.specs.Reader.{lineEnd, begins, valueIn, lineRead, refused, readEnd, readText};
+ghost use Rattle.settings.specs.Table.{longestKey};
+ghost use Rattle.text.specs.Reader.{endAt, feed, begins, valueIn, lineRead, refused, readEnd, readText};
 use crate::decimal::Decimal;
-use pid::settings::Row;
-use pid::settings::Settings;
+use settings::Settings;
+use settings::table::Row;
 
 // What a text is read as. The line is that of codes 14 and 15; beside any code but 0 stand blank settings.
 pub struct Reading {
@@ -19,13 +20,13 @@ struct Line {
     value: i32,
 }
 
-// The place of the first line feed, or the length where there is none.
-fn line_end(rest: &[u8]) -> usize
-    ensures { λ r. ⌜ r ≡ lineEnd (now (rest .entry)) ⌝ }
+// The place of the first such byte, or the length where there is none.
+pub fn end_at(rest: &[u8], byte: u8) -> usize
+    ensures { λ r. ⌜ r ≡ endAt byte (now (rest .entry)) ⌝ }
 {
     let mut i: usize = 0;
     while i < rest.len() {
-        if rest[i] == b'\n' {
+        if rest[i] == byte {
             return i;
         }
         i += 1;
@@ -51,7 +52,7 @@ pub fn begins(key: &[u8], line: &[u8]) -> bool
 
 // The value of a line, its line feed left out.
 fn value_in(row: Row, line: &[u8]) -> Decimal
-    requires { ⌜ row .1 ≤ 7 ⌝ }
+    requires { ⌜ row .1 ≤ longestKey ⌝ }
     ensures { λ r. ⌜ r ≡ valueIn row (now (line .entry)) ⌝ }
 {
     let key = row.0;
@@ -64,8 +65,8 @@ fn value_in(row: Row, line: &[u8]) -> Decimal
 
 // The first line of what is left of a text; end is the place of its line feed.
 fn read_line(row: Row, rest: &[u8], end: usize) -> Line
-    requires { ⌜ row .1 ≤ 7 ⌝ }
-    requires { ⌜ end ≡ lineEnd (now rest) ⌝ }
+    requires { ⌜ row .1 ≤ longestKey ⌝ }
+    requires { ⌜ end ≡ endAt feed (now rest) ⌝ }
     ensures { λ r. ⌜ r ≡ lineRead row (now (rest .entry)) ⌝ }
 {
     let ended = end < rest.len();
@@ -96,7 +97,7 @@ fn refused(code: u8, line: usize) -> Reading
 }
 
 // "Then 17, then 16."
-fn read_end(values: [i32; 26], left: usize) -> Reading
+fn read_end(values: [i32; Settings::LINES], left: usize) -> Reading
     ensures { λ r. ⌜ r ≡ readEnd values left ⌝ }
 {
     let settings = Settings::of(values);
@@ -119,11 +120,11 @@ fn read_end(values: [i32; 26], left: usize) -> Reading
 pub fn read_settings(text: &[u8]) -> Reading
     ensures { λ r. ⌜ r ≡ readText (now (text .entry)) ⌝ }
 {
-    let mut values = [0i32; 26];
+    let mut values = [0i32; Settings::LINES];
     let mut rest = text;
     let mut i: usize = 0;
-    while i < 26 {
-        let end = line_end(rest);
+    while i < Settings::LINES {
+        let end = end_at(rest, b'\n');
         let line = read_line(Row::at(i), rest, end);
         let code = line.code;
         if code != 0 {

@@ -3,13 +3,13 @@ ghost use mathlib.Core.Path.{_≡_};
 ghost use Prim.Native.Nat.{_+_, _≤_};
 ghost use lib.ListN.{length};
 ghost use lib.Seq.{sets};
-ghost use Rattle.pid.specs.Settings.{rows};
-ghost use Rattle.text.specs.Lines.{lineOf, linesOf};
+ghost use Rattle.settings.specs.Table.{longestKey};
+ghost use Rattle.text.specs.Lines.{lineOf, textOf};
 ghost use Rattle.text.specs.Writer.{writtenOf, bufferAfter};
 use crate::buffer::put;
-use crate::decimal::Shown;
-use pid::settings::Row;
-use pid::settings::Settings;
+use crate::buffer::put_signed;
+use settings::Settings;
+use settings::table::Row;
 
 // What the writer answers: the length is that of the text, 0 beside any code but 0.
 pub struct Written {
@@ -22,33 +22,28 @@ const LONGEST: usize = 306;
 
 // Puts a line from place at on, and answers the place after it.
 fn put_line(buffer: &mut [u8], at: usize, row: Row, x: i32) -> usize
-    requires { ⌜ row .1 ≤ 7 ⌝ }
-    requires { ⌜ at ≤ 65536 ⌝ }
+    requires { ⌜ (row .1 ≤ longestKey) × (at ≤ 65536) ⌝ }
     ensures { λ r. ⌜ r ≡ at + length (lineOf row x) ⌝ }
     ensures { λ r. ⌜ now (buffer .exit) ≡ sets (now (buffer .entry)) at (lineOf row x) ⌝ }
 {
     let key = row.0;
     let n = row.1;
-    let shown = Shown::of(x);
-    let bytes = shown.bytes;
-    let from = shown.from;
-    let start = at + n;
-    let end = start + (11 - from);
     put(buffer, at, &key[..n]);
-    put(buffer, start, &bytes[from..]);
+    let start = at + n;
+    let end = start + put_signed(buffer, start, x);
     put(buffer, end, b"\n");
     end + 1
 }
 
-// Puts the lines of the table's rows with these values, and answers their length.
-fn put_lines(buffer: &mut [u8], values: [i32; 26]) -> usize
-    ensures { λ r. ⌜ r ≡ length (linesOf rows values) ⌝ }
-    ensures { λ r. ⌜ now (buffer .exit) ≡ sets (now (buffer .entry)) 0 (linesOf rows values) ⌝ }
+// Puts the settings' text from the buffer's first byte on, and answers its length.
+fn put_lines(settings: Settings, buffer: &mut [u8]) -> usize
+    ensures { λ r. ⌜ r ≡ length (textOf settings) ⌝ }
+    ensures { λ r. ⌜ now (buffer .exit) ≡ sets (now (buffer .entry)) 0 (textOf settings) ⌝ }
 {
     let mut at: usize = 0;
     let mut i: usize = 0;
-    while i < 26 {
-        at = put_line(buffer, at, Row::at(i), values[i]);
+    while i < Settings::LINES {
+        at = put_line(buffer, at, Row::at(i), settings.value(i));
         i += 1;
     }
     at
@@ -64,7 +59,7 @@ pub fn write_settings(settings: Settings, buffer: &mut [u8]) -> Written
         return Written { code, len: 0 };
     }
     let mut space = [0u8; LONGEST];
-    let len = put_lines(&mut space, settings.values());
+    let len = put_lines(settings, &mut space);
     if buffer.len() < len {
         return Written { code: 18, len: 0 };
     }

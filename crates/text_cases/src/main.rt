@@ -3,7 +3,7 @@
 ghost use Prim.Native.Nat.{_≤_};
 ghost use lib.ListN.{length};
 use libc::STDOUT_FILENO;
-use pid::settings::Settings;
+use settings::Settings;
 use text::decimal::Decimal;
 use text::decimal::Shown;
 
@@ -391,11 +391,11 @@ fn again(name: &[u8], bytes: &[u8]) {
 // How many of the values beside a code are not zero.
 fn beside(name: &[u8], bytes: &[u8]) {
     let r = text::reader::read_settings(bytes);
-    let values = r.settings.values();
+    let settings = r.settings;
     let mut n: usize = 0;
     let mut i: usize = 0;
-    while i < 26 {
-        if values[i] != 0 {
+    while i < Settings::LINES {
+        if settings.value(i) != 0 {
             n += 1;
         }
         i += 1;
@@ -437,7 +437,7 @@ fn show(x: i32) {
     let s = Shown::of(x);
     let bytes = s.bytes;
     let from = s.from;
-    if from <= 11 {
+    if from <= Shown::ROOM {
         io::write_all(STDOUT_FILENO, &bytes[from..]);
     }
     io::write_all(STDOUT_FILENO, b"\n");

@@ -8,13 +8,14 @@ use mathlib.Core.Logic.{_↔_, _⊎_}
 use lib.IntN.{ℤ, natAbs}
 use lib.ListN.{length, take, drop}
 use lib.Seq.{take-at}
-use Rattle.pid.specs.declared.settings.Settings.{Settings}
-use Rattle.pid.specs.Settings.{sets, rows, allIn, settingsRefusal}
-use Rattle.pid.specs.Bench.{settingsC}
+use Rattle.settings.specs.declared.Settings.{Settings}
+use Rattle.settings.specs.Table.{sets, lines, rows}
+use Rattle.settings.specs.Settings.{allIn, settingsRefusal}
+use Rattle.settings.specs.SettingsC.{settingsC}
 use Rattle.text.specs.declared.reader.Reading.{Reading}
 use Rattle.text.specs.declared.decimal.Decimal.the-variants.{Is}
 use Rattle.text.specs.Decimal.{isDecimal, numberOf, decimalOf, decimal}
-use Rattle.text.specs.Lines.{linesOf, textOf}
+use Rattle.text.specs.Lines.{linesOf, textOf, longestText}
 use Rattle.text.specs.Reader.{refused, readText}
 use Rattle.text.specs.Writer.{writtenOf, bufferAfter}
 use Rattle.text.proofs.Decimals.{decimal-read, read-decimal}
@@ -51,11 +52,11 @@ accepted-exactly text = (
 )
 
 -- "The longest text has 306 bytes": an accepted text has at most 306, and one has 306.
-pub at-most-306 : (text : List ℕ) → readText text .code ≡ 0 → length text ≤ 306
-at-most-306 text e = let t = text-back text e in rw (t .same) (sound-long (readText text .settings) (t .right))
+pub at-most-longest : (text : List ℕ) → readText text .code ≡ 0 → length text ≤ longestText
+at-most-longest text e = let t = text-back text e in rw (t .same) (sound-long (readText text .settings) (t .right))
 
-pub one-has-306 : (length (textOf longest) ≡ 306) × (readText (textOf longest) .code ≡ 0)
-one-has-306 = (longest-written, longest-read)
+pub one-has-longest : (length (textOf longest) ≡ longestText) × (readText (textOf longest) .code ≡ 0)
+one-has-longest = (longest-written, longest-read)
 
 -- Settings C: the text is the 26 lines of 01, and these are read as C.
 pub c-there-and-back : (textOf settingsC ≡ textC) × (readText textC ≡ record { code = 0; line = 0; settings = settingsC })
@@ -65,14 +66,14 @@ c-there-and-back = (c-written, c-read)
 -- or 16 and line 0.
 pub data Answer : Reading → Type 0 where
   done : (s : Settings) → Answer (record { code = 0; line = 0; settings = s })
-  at-line : (code n : ℕ) → (code ≡ 14) ⊎ (code ≡ 15) → 1 ≤ n → n ≤ 26 → Answer (refused code n)
+  at-line : (code n : ℕ) → (code ≡ 14) ⊎ (code ≡ 15) → 1 ≤ n → n ≤ lines → Answer (refused code n)
   at-end : (code : ℕ) → (code ≡ 17) ⊎ (code ≡ 16) → Answer (refused code 0)
 
 pub every-reading : (text : List ℕ) → Answer (readText text)
 every-reading text = text-answer Answer done at-line at-end text
 
 -- "Text that stops early is 14 at the line where it stops": after k right lines, k below 26, that is line k + 1.
-pub stops-early : (k : ℕ) (vs : List ℤ) → k < 26 → length vs ≡ k → allIn (take k rows) vs ≡ true →
+pub stops-early : (k : ℕ) (vs : List ℤ) → k < lines → length vs ≡ k → allIn (take k rows) vs ≡ true →
     readText (linesOf (take k rows) vs) ≡ refused 14 (k + 1)
 stops-early k vs h e i = text-stops k vs h e i
 

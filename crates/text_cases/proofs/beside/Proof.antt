@@ -1,31 +1,26 @@
--- The loop's invariant: i is at most 26, and n at most i.
+-- The loop's invariant: i is at most the number of lines, and n at most i.
 use Prim.Native.Nat.{_-_, _≤_}
 use mathlib.Core.Logic.{⊎-elim}
 use native.Mathlib.Omega.{arith}
 use borrow.Author.Needs.{needs}
+use Rattle.settings.specs.Table.{lines}
 use Rattle.text_cases.proofs.beside.Statement.{statement}
 use Rattle.text_cases.proofs.beside.Tie as tie
 
 abbrev Inv-loop : tie.InvT-loop
-Inv-loop name bytes r values n₀ i₀ n i = (i ≤ 26) × (n ≤ i)
+Inv-loop name bytes r settings n₀ i₀ n i = (i ≤ lines) × (n ≤ i)
 
 abbrev μ-loop : tie.MeasureT-loop
-μ-loop name bytes r values n₀ i₀ n i = 26 - i
+μ-loop name bytes r settings n₀ i₀ n i = lines - i
 
 read-settings-requires : tie.Need-read-settings-requires Inv-loop μ-loop
 read-settings-requires c κs = search needs
 
-values-requires : tie.Need-values-requires Inv-loop μ-loop
-values-requires c κs = search needs
-
 loop-holds : tie.Need-loop-holds Inv-loop μ-loop
 loop-holds c = omega arith
 
-mul-if1 : tie.Need-mul-if1 Inv-loop μ-loop
-mul-if1 c = omega arith
-
-array-copy-out-if1 : tie.Need-array-copy-out-if1 Inv-loop μ-loop
-array-copy-out-if1 c = search needs
+value-requires : tie.Need-value-requires Inv-loop μ-loop
+value-requires c κs = search needs
 
 add-n : tie.Need-add-n Inv-loop μ-loop
 add-n c = omega arith
@@ -52,10 +47,8 @@ beside-spec =
     Inv-loop
     μ-loop
     read-settings-requires
-    values-requires
     loop-holds
-    mul-if1
-    array-copy-out-if1
+    value-requires
     add-n
     add-i
     loop-less

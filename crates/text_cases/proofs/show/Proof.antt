@@ -1,6 +1,7 @@
 use mathlib.Core.Path.{_≡_}
 use native.Mathlib.Omega.{arith}
 use lib.ListN.{length}
+use Rattle.text.specs.Decimal.{decimalRoom}
 use borrow.Author.Needs.{needs}
 use Rattle.text_cases.proofs.show.Statement.{statement}
 use Rattle.text_cases.proofs.show.Tie as tie
@@ -12,7 +13,7 @@ part-write-all-start : tie.Need-part-write-all-start
 part-write-all-start c = search needs
 
 part-write-all-end : tie.Need-part-write-all-end
-part-write-all-end c = let e : length (c .before .before .before .of .result .bytes) ≡ 11 = search needs in omega arith
+part-write-all-end c = let e : length (c .before .before .before .of .result .bytes) ≡ decimalRoom = search needs in omega arith
 
 write-all-requires : tie.Need-write-all-requires
 write-all-requires c κs = search needs

@@ -11,17 +11,18 @@ use mir.Syntax.{w32}
 use mir.Val.{SFits}
 use mir.Facts.{toZ-ofZ}
 use Rattle.whole.proofs.Truth.{so}
-use Rattle.pid.specs.Settings.{inRow}
+use Rattle.settings.specs.Table.{inRow}
 use Rattle.text.specs.declared.decimal.Decimal.the-variants.{Is}
-use Rattle.text.specs.Reader.{lineIn, ended, valueIn}
-use Rattle.text.proofs.Texts.{end-in, line-wrong, line-stops, line-out, line-good}
+use Rattle.text.specs.Reader.{feed, lineIn, ended, valueIn}
+use Rattle.text.proofs.Words.{end-in}
+use Rattle.text.proofs.Texts.{line-wrong, line-stops, line-out, line-good}
 use Rattle.text.proofs.reader.read_line.Statement.{statement}
 use Rattle.text.proofs.reader.read_line.Tie as tie
 
 slice-aggregate-value-in : tie.Need-slice-aggregate-value-in
 slice-aggregate-value-in c =
     let s = c .before .before in
-    simp length-take (omega (arith, s .pre, end-in (now (s .args .rest))))
+    simp length-take (omega (arith, s .pre, end-in feed (now (s .args .rest))))
 
 value-in-requires : tie.Need-value-in-requires
 value-in-requires c κs = search needs

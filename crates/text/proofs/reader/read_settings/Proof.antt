@@ -12,38 +12,38 @@ use mir.Syntax.{w32}
 use mir.Val.{SFits}
 use mir.Facts.{toZ-ofZ}
 use Rattle.whole.proofs.Truth.{so}
-use Rattle.pid.specs.declared.settings.Row.{Row}
-use Rattle.pid.specs.Settings.{rows, noRow}
+use Rattle.settings.specs.declared.table.Row.{Row}
+use Rattle.settings.specs.Table.{lines, rows, noRow}
 use Rattle.text.specs.declared.reader.Line.{Line}
 use Rattle.text.specs.Reader.{lineCode, lineValue, lineRead, refused, readEnd, readFrom, readText}
 use Rattle.text.proofs.Lists.{set-take}
 use Rattle.text.proofs.Rows.{key-short, rows-next}
-use Rattle.text.proofs.Texts.{line-yes, feed-there, value-taken, part-after, after-shorter, line-refused, line-taken, lines-done}
+use Rattle.text.proofs.Texts.{line-yes, feed-there, value-taken, part-line, after-shorter, line-refused, line-taken, lines-done}
 use Rattle.text.proofs.reader.read_settings.Statement.{statement}
 use Rattle.text.proofs.reader.read_settings.Tie as tie
 
 abbrev Inv-loop : tie.InvT-loop
 Inv-loop text values₀ rest₀ i₀ values rest i =
-    (i ≤ 26)
-    × (length values ≡ 26)
+    (i ≤ lines)
+    × (length values ≡ lines)
     × (length rest ≤ length text)
     × (readText text ≡ readFrom (drop i rows) (i + 1) (take i values) rest)
 
 abbrev μ-loop : tie.MeasureT-loop
-μ-loop text values₀ rest₀ i₀ values rest i = 26 - i
+μ-loop text values₀ rest₀ i₀ values rest i = lines - i
 
 loop-holds : tie.Need-loop-holds Inv-loop μ-loop
 unfolding readText
 loop-holds c = (omega arith, refl, omega arith, refl)
 
-line-end-requires : tie.Need-line-end-requires Inv-loop μ-loop
-line-end-requires c κs = search needs
+end-at-requires : tie.Need-end-at-requires Inv-loop μ-loop
+end-at-requires c κs = search needs
 
 at-requires : tie.Need-at-requires Inv-loop μ-loop
 at-requires c κs = search needs
 
 read-line-requires : tie.Need-read-line-requires Inv-loop μ-loop
-read-line-requires c κs = (rw (c .at .ensures) (key-short (c .before .before .before .loop .i)), c .before .line-end .ensures)
+read-line-requires c κs = (rw (c .at .ensures) (key-short (c .before .before .before .loop .i)), c .before .end-at .ensures)
 
 -- the line that was read is that of row i
 told : (c : tie.After-read-line Inv-loop μ-loop) →
@@ -82,10 +82,10 @@ taken : (c : tie.Else1 Inv-loop μ-loop) →
     lineCode (getD rows (c .before .before .before .before .before .loop .i) noRow) (now (c .before .before .before .before .before .loop .rest)) ≡ 0
 taken c = so (ap (λ (x : Line). x .code) (told (c .before))) (c .if1 .left)
 
-room : (c : tie.Else1 Inv-loop μ-loop) → c .before .before .before .line-end .result < length (now (c .before .before .before .before .before .loop .rest))
+room : (c : tie.Else1 Inv-loop μ-loop) → c .before .before .before .end-at .result < length (now (c .before .before .before .before .before .loop .rest))
 room c =
     let s = now (c .before .before .before .before .before .loop .rest) in
-    omega (arith, c .before .before .before .line-end .ensures, feed-there s (line-yes _ s (taken c) .closed))
+    omega (arith, c .before .before .before .end-at .ensures, feed-there s (line-yes _ s (taken c) .closed))
 
 mul-values : tie.Need-mul-values Inv-loop μ-loop
 mul-values c = omega arith
@@ -119,7 +119,7 @@ loop-again c =
     let r = getD rows (l .i) noRow in
     let f : SFits w32 (t .read-line .result .value) = search needs in
     let v : t .read-line .result .value ≡ lineValue r s = value-taken r s (t .read-line .result) (told t) (taken (c .before .before)) in
-    let p = part-after s (t .before .before .line-end .result) (t .before .before .line-end .ensures) in (
+    let p = part-line s (t .before .before .end-at .result) (t .before .before .end-at .ensures) in (
       omega arith,
       simp length-set (l .inv .1),
       omega (arith, ap length p, after-shorter s, l .inv .2),
@@ -149,7 +149,7 @@ read-settings-spec =
     Inv-loop
     μ-loop
     loop-holds
-    line-end-requires
+    end-at-requires
     at-requires
     read-line-requires
     add-refused

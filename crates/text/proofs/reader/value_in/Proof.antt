@@ -6,6 +6,7 @@ use borrow.Author.Tests.{not-true, not-false}
 use denote.Ref.{now}
 use lib.ListN.{length}
 use Rattle.whole.proofs.Truth.{so}
+use Rattle.settings.specs.Table.{longestKey}
 use Rattle.text.specs.Decimal.{decimalOf}
 use Rattle.text.specs.Lines.{keyOf}
 use Rattle.text.specs.Reader.{begins, wordIn}
@@ -20,7 +21,7 @@ key-long : (c : tie.Start) → length (keyOf (c .args .row)) ≡ c .args .row .1
 key-long c = key-length (c .args .row) (search needs) (c .pre)
 
 array-share-prefix-key : tie.Need-array-share-prefix-key
-array-share-prefix-key c = let e : length (c .before .before .args .row .0) ≡ 7 = search needs in omega (arith, c .before .before .pre)
+array-share-prefix-key c = let e : length (c .before .before .args .row .0) ≡ longestKey = search needs in omega (arith, c .before .before .pre)
 
 slice-aggregate-begins : tie.Need-slice-aggregate-begins
 slice-aggregate-begins c = sym (key-long (c .before .before .before))

@@ -1,121 +1,93 @@
-use Prim.Native.Nat.{ℕ, _+_, _-_}
+use Prim.Native.Nat.{_+_, _≤_}
 use mathlib.Core.Path.{_≡_, sym}
-use mathlib.Core.List.{List}
 use native.Mathlib.Omega.{arith}
-use borrow.Author.Needs.{needs}
 use denote.Ref.{now}
-use lib.ListN.{length, take, drop, length-append}
+use lib.ListN.{length, length-append}
+use lib.Seq.{sets}
 use mir.Facts.{toZ-ofZ}
-use Rattle.text.specs.Decimal.{decimal, padded}
+use Rattle.settings.specs.Table.{longestKey}
+use Rattle.text.specs.Decimal.{decimalRoom, decimal}
 use Rattle.text.specs.Lines.{keyOf}
-use Rattle.text.proofs.Shows.{decimal-room, padded-part}
+use Rattle.text.proofs.Shows.{decimal-room}
 use Rattle.text.proofs.Rows.{key-length}
 use Rattle.text.proofs.Stores.{line-stored}
+use borrow.Author.Needs.{needs}
 use Rattle.text.proofs.writer.put_line.Statement.{statement}
 use Rattle.text.proofs.writer.put_line.Tie as tie
-
-of-requires : tie.Need-of-requires
-of-requires c κs = search needs
-
--- what is shown is the decimal, and its part of the eleven bytes is where it says
-told : (c : tie.After-of) → c .of .result ≡ padded (decimal (c .before .before .before .args .x))
-told c = rw (toZ-ofZ (c .before .before .before .fits .x)) at (c .of .ensures)
-
-record Placed (from : ℕ) (bytes w : List ℕ) : Type 0 where
-  long : from + length w ≡ 11
-  part : take (11 - from) (drop from bytes) ≡ w
-
-placed : (c : tie.After-of) → Placed (c .of .result .from) (c .of .result .bytes) (decimal (c .before .before .before .args .x))
-placed c =
-    let s = c .before .before .before in
-    let h = decimal-room (s .args .x) (s .fits .x) in
-    rw (told c) (record { long = omega arith; part = padded-part (decimal (s .args .x)) h })
-
-add-start : tie.Need-add-start
-add-start c = search needs
-
-sub-end : tie.Need-sub-end
-sub-end c = omega (arith, placed (c .before) .long)
-
-add-end : tie.Need-add-end
-add-end c = search needs
 
 key-long : (c : tie.Start) → length (keyOf (c .args .row)) ≡ c .args .row .1
 key-long c = key-length (c .args .row) (search needs) (c .pre .0)
 
 array-share-prefix-key : tie.Need-array-share-prefix-key
 array-share-prefix-key c =
-    let s = c .before .before .before .before .before in
-    let e : length (s .args .row .0) ≡ 7 = search needs in
+    let s = c .before .before .before in
+    let e : length (s .args .row .0) ≡ longestKey = search needs in
     omega (arith, s .pre .0)
 
 slice-aggregate-put : tie.Need-slice-aggregate-put
-slice-aggregate-put c = sym (key-long (c .before .before .before .before .before .before))
+slice-aggregate-put c = sym (key-long (c .before .before .before .before))
 
 put-requires : tie.Need-put-requires
 put-requires c κs = search needs
 
-sub-put : tie.Need-sub-put
-sub-put c = omega (arith, placed (c .before .before .before .before .before .before .before) .long)
+add-start : tie.Need-add-start
+add-start c = search needs
 
-part-put-start : tie.Need-part-put-start
-part-put-start c = omega (arith, placed (c .before .before .before .before .before .before .before .before) .long)
+put-signed-requires : tie.Need-put-signed-requires
+put-signed-requires c κs = search needs
 
-part-put-end : tie.Need-part-put-end
-part-put-end c = let e : length (c .before .before .before .before .before .before .before .before .of .result .bytes) ≡ 11 = search needs in omega arith
+-- what was put after the key is the decimal
+told : (c : tie.After-put-signed) →
+    let s = c .before .before .before .before .before .before .before .before .before in
+    let w = decimal (s .args .x) in
+    (c .put-signed .result ≡ length w) × (c .put-signed .last .0 ≡ sets (c .before .before .before .before .put .last .0) (s .args .at + s .args .row .1) w)
+told c = rw (toZ-ofZ (c .before .before .before .before .before .before .before .before .before .fits .x)) at (c .put-signed .ensures)
 
-put-requires-2 : tie.Need-put-requires-2
-put-requires-2 c κs = search needs
+-- and so it has at most eleven bytes
+few : (c : tie.After-put-signed) → c .put-signed .result ≤ decimalRoom
+few c = let s = c .before .before .before .before .before .before .before .before .before in omega (arith, told c .0, decimal-room (s .args .x) (s .fits .x))
+
+add-end : tie.Need-add-end
+add-end c = let h = few (c .before .before) in let s = c .before .before .before .before .before .before .before .before .before .before .before in record { fits = omega (arith, s .pre) }
 
 slice-aggregate-put-2 : tie.Need-slice-aggregate-put-2
 slice-aggregate-put-2 c = search needs
 
-put-requires-3 : tie.Need-put-requires-3
-put-requires-3 c κs = search needs
+put-requires-2 : tie.Need-put-requires-2
+put-requires-2 c κs = search needs
 
 add-result : tie.Need-add-result
-add-result c = search needs
+add-result c = let h = few (c .before .before .before .before .before .before .before) in let s = c .before .before .before .before .before .before .before .before .before .before .before .before .before .before .before .before in record { fits = omega (arith, s .pre) }
 
 same-length : tie.Need-same-length
 same-length c = search needs
 
 returns : tie.Need-returns
 returns c =
-    let p3 = c .before .before in
-    let p2 = p3 .before .before .before .before .before in
-    let p1 = p2 .before .before .before .before .before .before in
-    let o = p1 .before .before .before .before in
-    let s = o .before .before .before in
-    let d = placed o in
+    let s = c .before .before .before .before .before .before .before .before .before .before .before .before .before .before .before .before in
     let k = key-long s in
-    let w = decimal (s .args .x) in (
-      simp length-append (omega (arith, d .long)),
-      line-stored (now (s .args .buffer)) (s .args .at) (keyOf (s .args .row)) w
-          (p1 .put .ensures)
-          (p2 .put2 .ensures)
-          (p3 .put3 .ensures)
-          (d .part)
+    let t = told (c .before .before .before .before .before .before .before) in (
+      simp length-append (omega (arith, t .0)),
+      line-stored (now (s .args .buffer)) (s .args .at) (keyOf (s .args .row)) (decimal (s .args .x))
+          (c .before .before .before .before .before .before .before .before .before .before .before .put .ensures)
+          (t .1)
+          (c .before .before .put2 .ensures)
           (omega arith)
-          (omega (arith, d .long)),
+          (omega (arith, t .0)),
     )
 
 pub put-line-spec : {M : Type 1} → statement M
 put-line-spec =
     tie.close
     (tie.spec
-    of-requires
-    add-start
-    sub-end
-    add-end
     array-share-prefix-key
     slice-aggregate-put
     put-requires
-    sub-put
-    part-put-start
-    part-put-end
-    put-requires-2
+    add-start
+    put-signed-requires
+    add-end
     slice-aggregate-put-2
-    put-requires-3
+    put-requires-2
     add-result
     same-length
     returns)

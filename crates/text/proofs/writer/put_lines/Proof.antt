@@ -10,9 +10,12 @@ use lib.Seq.{sets}
 use mir.Syntax.{w32}
 use mir.Val.{SFits}
 use mir.Facts.{toZ-ofZ}
-use Rattle.whole.proofs.Bits.{elem-fits}
-use Rattle.pid.specs.Settings.{rows, noRow}
-use Rattle.text.specs.Lines.{lineOf, linesOf}
+use Rattle.settings.specs.Table.{longestKey, lines, rows, noRow}
+use Rattle.settings.specs.Settings.{valuesOf}
+use Rattle.settings.proofs.Fit.{settings-fit}
+use Rattle.settings.proofs.Rows.{values-long}
+use Rattle.text.specs.Decimal.{decimalRoom}
+use Rattle.text.specs.Lines.{lineOf, linesOf, textOf}
 use Rattle.text.proofs.Shows.{line-short}
 use Rattle.text.proofs.Rows.{key-short, lines-next, lines-end}
 use Rattle.text.proofs.Stores.{rest-stored}
@@ -20,27 +23,25 @@ use Rattle.text.proofs.writer.put_lines.Statement.{statement}
 use Rattle.text.proofs.writer.put_lines.Tie as tie
 
 abbrev Inv-loop : tie.InvT-loop
-Inv-loop buffer₀ values at₀ i₀ buffer at i =
-    (i ≤ 26)
+Inv-loop settings buffer₀ at₀ i₀ buffer at i =
+    (i ≤ lines)
     × (length buffer ≡ length buffer₀)
-    × (at ≤ 19 * i)
-    × (length (linesOf rows values) ≡ at + length (linesOf (drop i rows) (drop i values)))
-    × (sets buffer₀ 0 (linesOf rows values) ≡ sets buffer at (linesOf (drop i rows) (drop i values)))
+    × (at ≤ (longestKey + decimalRoom + 1) * i)
+    × (length (textOf settings) ≡ at + length (linesOf (drop i rows) (drop i (valuesOf settings))))
+    × (sets buffer₀ 0 (textOf settings) ≡ sets buffer at (linesOf (drop i rows) (drop i (valuesOf settings))))
 
 abbrev μ-loop : tie.MeasureT-loop
-μ-loop buffer₀ values at₀ i₀ buffer at i = 26 - i
+μ-loop settings buffer₀ at₀ i₀ buffer at i = lines - i
 
 loop-holds : tie.Need-loop-holds Inv-loop μ-loop
-loop-holds c = (omega arith, refl, omega arith, sym (zero-add (length (linesOf rows (c .before .args .t2)))), refl)
+unfolding textOf
+loop-holds c = (omega arith, refl, omega arith, sym (zero-add (length (linesOf rows (valuesOf (c .before .args .settings))))), refl)
 
 at-requires : tie.Need-at-requires Inv-loop μ-loop
 at-requires c κs = search needs
 
-mul-put-line : tie.Need-mul-put-line Inv-loop μ-loop
-mul-put-line c = omega arith
-
-array-copy-out-put-line : tie.Need-array-copy-out-put-line Inv-loop μ-loop
-array-copy-out-put-line c = omega arith
+value-requires : tie.Need-value-requires Inv-loop μ-loop
+value-requires c κs = search needs
 
 put-line-requires : tie.Need-put-line-requires Inv-loop μ-loop
 put-line-requires c κs =
@@ -50,12 +51,11 @@ put-line-requires c κs =
 -- the line that was put is that of row i
 told : (c : tie.After-put-line Inv-loop μ-loop) →
     let l = c .before .before .before .before .before .loop in
-    let line = lineOf (getD rows (l .i) noRow) (getD (c .before .before .before .before .before .before .before .args .t2) (l .i) (pos 0)) in
+    let line = lineOf (getD rows (l .i) noRow) (getD (valuesOf (c .before .before .before .before .before .before .before .args .settings)) (l .i) (pos 0)) in
     (c .put-line .result ≡ l .at + length line) × (c .put-line .last .0 ≡ sets (l .buffer) (l .at) line)
 told c =
-    let l = c .before .before .before .before .before .loop in
-    let f : SFits w32 (getD (c .before .before .before .before .before .before .before .args .t2) (l .i) (pos 0)) = search elem-fits in
-    rw (toZ-ofZ f, c .before .before .at .ensures) at (c .put-line .ensures)
+    let f : SFits w32 (c .before .value .result) = search needs in
+    rw (toZ-ofZ f, c .before .before .at .ensures, c .before .value .ensures) at (c .put-line .ensures)
 
 add-i : tie.Need-add-i Inv-loop μ-loop
 add-i c = omega arith
@@ -67,10 +67,12 @@ loop-again : tie.Need-loop-again Inv-loop μ-loop
 loop-again c =
     let p = c .before .before in
     let l = p .before .before .before .before .before .loop in
-    let vs = p .before .before .before .before .before .before .before .args .t2 in
-    let f : SFits w32 (getD vs (l .i) (pos 0)) = search elem-fits in
+    let a = p .before .before .before .before .before .before .before in
+    let vs = valuesOf (a .args .settings) in
+    let g : SFits w32 (p .before .value .result) = search needs in
+    let f : SFits w32 (getD vs (l .i) (pos 0)) = rw (p .before .value .ensures) at g in
     let t = told p in
-    let n = lines-next vs (l .i) (p .before .before .before .before .loop-test .taken) (search needs) in
+    let n = lines-next vs (l .i) (p .before .before .before .before .loop-test .taken) (values-long (a .args .settings) (settings-fit (a .args .settings) (a .good .0) .sets)) in
     let r = getD rows (l .i) noRow in
     let z = getD vs (l .i) (pos 0) in
     let left = linesOf (drop (l .i + 1) rows) (drop (l .i + 1) vs) in
@@ -89,7 +91,7 @@ same-length c = c .before .loop .inv .1
 returns : tie.Need-returns Inv-loop μ-loop
 returns c =
     let l = c .before .loop in
-    let vs = c .before .before .before .args .t2 in
+    let vs = valuesOf (c .before .before .before .args .settings) in
     let e = lines-end (drop (l .i) vs) (l .i) (c .loop-test .left) in
     (omega (arith, l .inv .3, ap length e), sym (l .inv .4 ∙ ap (sets (l .buffer) (l .at)) e))
 
@@ -101,8 +103,7 @@ put-lines-spec =
     μ-loop
     loop-holds
     at-requires
-    mul-put-line
-    array-copy-out-put-line
+    value-requires
     put-line-requires
     add-i
     loop-less

@@ -4,12 +4,11 @@ use mathlib.Core.List.{List}
 use native.Mathlib.Omega.{arith}
 use borrow.Author.Needs.{needs}
 use denote.Ref.{now}
-use lib.IntN.{ℤ}
 use lib.ListN.{length, take, replicate, length-take}
 use lib.Seq.{sets}
 use Rattle.whole.proofs.Truth.{so}
-use Rattle.pid.specs.Settings.{rows, settingsRefusal}
-use Rattle.text.specs.Lines.{linesOf, textOf}
+use Rattle.settings.specs.Settings.{settingsRefusal}
+use Rattle.text.specs.Lines.{textOf, longestText}
 use Rattle.text.proofs.Stores.{front-stored, text-part}
 use Rattle.text.proofs.Writes.{settings-refused, too-short, fits-in, sound-long}
 use Rattle.text.proofs.writer.write_settings.Statement.{statement}
@@ -31,39 +30,33 @@ sound c = so (c .before .refusal .ensures) (c .if1 .left)
 slice-aggregate-put-lines : tie.Need-slice-aggregate-put-lines
 slice-aggregate-put-lines c = search needs
 
-values-requires : tie.Need-values-requires
-values-requires c κs = search needs
-
 put-lines-requires : tie.Need-put-lines-requires
 put-lines-requires c κs = search needs
 
 -- the space holds the text, whose length was answered
 record Held (len : ℕ) (space text : List ℕ) : Type 0 where
   long : len ≡ length text
-  short : length text ≤ 306
-  all : length space ≡ 306
+  short : length text ≤ longestText
+  all : length space ≡ longestText
   part : take len space ≡ text
 
-held : (c : tie.After-put-lines) → Held (c .put-lines .result) (c .put-lines .last .0) (textOf (c .before .before .before .before .before .before .args .settings))
-unfolding textOf
+held : (c : tie.After-put-lines) → Held (c .put-lines .result) (c .put-lines .last .1 .0) (textOf (c .before .before .before .before .before .args .settings))
 held c =
-    let v = c .before .values in
-    let s = c .before .before .before .before .before .before in
-    let short = sound-long (s .args .settings) (sound (c .before .before .before)) in
-    let n = c .put-lines .ensures .0 ∙ ap (λ (vs : List ℤ). length (linesOf rows vs)) (v .ensures) in
-    let e = c .put-lines .ensures .1 ∙ ap (λ (vs : List ℤ). sets (replicate 306 0) 0 (linesOf rows vs)) (v .ensures) in
+    let s = c .before .before .before .before .before in
+    let short = sound-long (s .args .settings) (sound (c .before .before)) in
+    let n = c .put-lines .ensures .0 in
     record {
       long = n;
       short = short;
-      all = c .put-lines .kept .0;
-      part = ap (take (c .put-lines .result)) e ∙ text-part (replicate 306 0) (textOf (s .args .settings)) (c .put-lines .result) n short;
+      all = c .put-lines .kept .1 .0;
+      part = ap (take (c .put-lines .result)) (c .put-lines .ensures .1) ∙ text-part (replicate longestText 0) (textOf (s .args .settings)) (c .put-lines .result) n short;
     }
 
 returns-2 : tie.Need-returns-2
 returns-2 c =
     let p = c .before .before in
-    let a = p .before .before .before .before .before .before .args in
-    let l = too-short (a .settings) (now (a .buffer)) (sound (p .before .before .before)) (omega (arith, held p)) in
+    let a = p .before .before .before .before .before .args in
+    let l = too-short (a .settings) (now (a .buffer)) (sound (p .before .before)) (omega (arith, held p)) in
     (l .says, l .holds)
 
 array-share-prefix-space : tie.Need-array-share-prefix-space
@@ -81,11 +74,11 @@ same-length c = search needs
 returns-3 : tie.Need-returns-3
 returns-3 c =
     let p = c .before .before .before .before .before .before .before in
-    let a = p .before .before .before .before .before .before .args in
+    let a = p .before .before .before .before .before .args in
     let h = held p in
     let t = textOf (a .settings) in
     let fit : length t ≤ length (now (a .buffer)) = omega arith in
-    let l = fits-in (a .settings) (now (a .buffer)) (sound (p .before .before .before)) fit in (
+    let l = fits-in (a .settings) (now (a .buffer)) (sound (p .before .before)) fit in (
       ap (λ (n : ℕ). record { code = 0; len = n }) (h .long) ∙ l .says,
       c .before .before .put .ensures ∙ ap (sets (now (a .buffer)) 0) (h .part) ∙ front-stored (now (a .buffer)) t fit ∙ l .holds,
     )
@@ -97,7 +90,6 @@ write-settings-spec =
     refusal-requires
     returns
     slice-aggregate-put-lines
-    values-requires
     put-lines-requires
     returns-2
     array-share-prefix-space

@@ -1,0 +1,5 @@
+pub mod Lists
+pub mod Rows
+pub mod Values
+pub mod Ranges
+pub mod Fit

@@ -1,0 +1,141 @@
+-- The test whether settings lie within the table: its parts, and what it says of each value.
+use Prim.Native.Nat.{ℕ, zero, suc, _+_, _-_, _<_, _≤_}
+use mathlib.Core.Path.{_≡_, refl, _∙_}
+use mathlib.Core.Bool.{Bool, true, false, _&&_}
+use mathlib.Core.List.{List, [], _∷_, _++_}
+use native.Mathlib.Omega.{arith}
+use lib.Dec.{lit<}
+use lib.IntN.{ℤ, pos, negsuc}
+use lib.ListN.{length, getD, drop, drop-of-length-le}
+use mir.Syntax.{w32}
+use mir.Val.{SFits, toZ, ofZ}
+use mir.Facts.{toZ-ofZ}
+use Rattle.whole.specs.Numbers.{inside}
+use Rattle.whole.proofs.Truth.{never, both}
+use Rattle.settings.specs.declared.Gains.{Gains}
+use Rattle.settings.specs.declared.Settings.{Settings}
+use Rattle.settings.specs.declared.table.Row.{Row}
+use Rattle.settings.specs.Table.{reach, fastest, gain, share, headRows, gainRows, table, sets, heads, keys, lines, setRows, each, numbersFrom, rows, noRow, inRow}
+use Rattle.settings.specs.Settings.{noGains, gainsAt, gainValues, headValues, valuesOf, allIn, inTable}
+use Rattle.settings.proofs.Lists.{next}
+use Rattle.settings.proofs.Rows.{rows-long}
+
+-- ---- the test of one value after another
+
+-- a value that the machine holds, against row j of the table
+pub held : (j : ℕ) {z : ℤ} → SFits w32 z → inRow (getD table j noRow) (toZ w32 (ofZ w32 z)) ≡ inRow (getD table j noRow) z
+held j f = rw (toZ-ofZ f)
+
+pub meet : {t u a b : Bool} → t ≡ a → u ≡ b → (t && u) ≡ (a && b)
+meet p q = rw (p, q)
+
+pub last : {t a : Bool} → t ≡ a → t ≡ (a && true)
+last {t} {a} p = p ∙ alone a
+  where
+    alone : (a : Bool) → a ≡ (a && true)
+    alone true = refl
+    alone false = refl
+
+-- ---- the test, part by part
+
+-- one row of the test
+pub in-next : (vs : List ℤ) (i : ℕ) → i < lines → length vs ≡ lines →
+    allIn (drop i rows) (drop i vs) ≡ (inRow (getD rows i noRow) (getD vs i (pos 0)) && allIn (drop (i + 1) rows) (drop (i + 1) vs))
+in-next vs i h e = rw (next rows i noRow (omega (arith, rows-long)), next vs i (pos 0) (omega arith))
+
+-- the test's end
+pub in-end : (vs : List ℤ) (i : ℕ) → lines ≤ i → allIn (drop i rows) vs ≡ true
+in-end vs i h = let k : length rows ≤ i = omega (arith, rows-long) in rw (drop-of-length-le rows k)
+
+-- the test of the first rows, and then of the others
+all-append : (rs qs : List Row) (vs ws : List ℤ) → length vs ≡ length rs → allIn (rs ++ qs) (vs ++ ws) ≡ (allIn rs vs && allIn qs ws)
+all-append [] qs [] ws e = refl
+all-append [] qs (z ∷ vs) ws e = absurd (omega arith)
+all-append (r ∷ rs) qs [] ws e = absurd (omega arith)
+all-append (r ∷ rs) qs (z ∷ vs) ws e = joined (inRow r z) (allIn rs vs) (allIn qs ws) (all-append rs qs vs ws (omega arith))
+  where
+    joined : (t v w : Bool) {u : Bool} → u ≡ (v && w) → (t && u) ≡ ((t && v) && w)
+    joined true v w p = p
+    joined false v w p = refl
+
+-- the test of the gain sets from set k on
+abbrev pub setsIn : List Gains → ℕ → Bool
+setsIn gs k = allIn (each setRows (numbersFrom k (sets - k))) (each gainValues (drop k gs))
+
+pub table-parts : (s : Settings) → inTable s ≡ (allIn headRows (headValues s) && setsIn (s .gains) 0)
+unfolding inTable rows
+table-parts s = all-append headRows (each setRows (numbersFrom 0 sets)) (headValues s) (each gainValues (s .gains)) refl
+
+pub table-sets : (s : Settings) → allIn headRows (headValues s) ≡ true → inTable s ≡ setsIn (s .gains) 0
+table-sets s e = table-parts s ∙ rw e
+
+pub sets-in-next : (gs : List Gains) (k : ℕ) → k < sets → length gs ≡ sets →
+    setsIn gs k ≡ (allIn gainRows (gainValues (gainsAt gs k)) && setsIn gs (k + 1))
+sets-in-next gs k h e =
+    let n : sets - k ≡ suc (sets - (k + 1)) = omega arith in
+    rw (n, next gs k noGains (omega arith))
+    (all-append (setRows k) (each setRows (numbersFrom (k + 1) (sets - (k + 1)))) (gainValues (gainsAt gs k)) (each gainValues (drop (k + 1) gs)) refl)
+
+pub sets-in-end : (gs : List Gains) (k : ℕ) → sets ≤ k → setsIn gs k ≡ true
+sets-in-end gs k h = let n : sets - k ≡ 0 = omega arith in rw n
+
+-- ---- what the test says of each value
+
+-- of the value at a place
+pub all-at : (rs : List Row) (vs : List ℤ) → allIn rs vs ≡ true → (i : ℕ) → i < length rs → inRow (getD rs i noRow) (getD vs i (pos 0)) ≡ true
+all-at [] vs e i h = absurd (omega arith)
+all-at (r ∷ rs) [] e i h = never e
+all-at (r ∷ rs) (z ∷ vs) e zero h = both (inRow r z) (allIn rs vs) e .0
+all-at (r ∷ rs) (z ∷ vs) e (suc i) h = all-at rs vs (both (inRow r z) (allIn rs vs) e .1) i (omega arith)
+
+-- and of the values from a place on
+all-from : (n : ℕ) (rs : List Row) (vs : List ℤ) → allIn rs vs ≡ true → allIn (drop n rs) (drop n vs) ≡ true
+all-from zero rs vs e = e
+all-from (suc n) [] vs e = refl
+all-from (suc n) (r ∷ rs) [] e = never e
+all-from (suc n) (r ∷ rs) (z ∷ vs) e = all-from n rs vs (both (inRow r z) (allIn rs vs) e .1)
+
+pub record GainsIn (g : Gains) : Type 0 where
+  pub kp : inside (pos 0) (pos gain) (g .kp) ≡ true
+  pub ki : inside (pos 0) (pos gain) (g .ki) ≡ true
+  pub kd : inside (pos 0) (pos gain) (g .kd) ≡ true
+  pub alpha : inside (pos 1) (pos share) (g .alpha) ≡ true
+  pub kt : inside (pos 0) (pos share) (g .kt) ≡ true
+
+pub record SettingsIn (s : Settings) : Type 0 where
+  pub action : inside (pos 0) (pos 1) (s .action) ≡ true
+  pub lo : inside (negsuc 999999) (pos reach) (s .lo) ≡ true
+  pub hi : inside (negsuc 999999) (pos reach) (s .hi) ≡ true
+  pub out : inside (negsuc 999999) (pos reach) (s .out) ≡ true
+  pub sp : inside (negsuc 999999) (pos reach) (s .sp) ≡ true
+  pub rate : inside (pos 1) (pos fastest) (s .rate) ≡ true
+  pub gains : (k : ℕ) → k < sets → GainsIn (gainsAt (s .gains) k)
+
+-- of any gain set, however many there are
+sets-in : (gs : List Gains) (ks : List ℕ) → allIn (each setRows ks) (each gainValues gs) ≡ true → (j : ℕ) → j < length ks → GainsIn (gainsAt gs j)
+sets-in gs [] e j h = absurd (omega arith)
+sets-in [] (k ∷ ks) e j h = never e
+sets-in (g ∷ gs) (k ∷ ks) e zero h =
+    let at = all-at (each setRows (k ∷ ks)) (each gainValues (g ∷ gs)) e in
+    record {
+      kp = at 0 (omega arith);
+      ki = at 1 (omega arith);
+      kd = at 2 (omega arith);
+      alpha = at 3 (omega arith);
+      kt = at 4 (omega arith);
+    }
+sets-in (g ∷ gs) (k ∷ ks) e (suc j) h = sets-in gs ks (all-from keys (each setRows (k ∷ ks)) (each gainValues (g ∷ gs)) e) j (omega arith)
+
+pub settings-in : (s : Settings) → inTable s ≡ true → SettingsIn s
+unfolding inTable rows
+settings-in s e =
+    let at = all-at rows (valuesOf s) e in
+    record {
+      action = at 0 (lit< tt);
+      lo = at 1 (lit< tt);
+      hi = at 2 (lit< tt);
+      out = at 3 (lit< tt);
+      sp = at 4 (lit< tt);
+      rate = at 5 (lit< tt);
+      gains = sets-in (s .gains) (numbersFrom 0 sets) (all-from heads rows (valuesOf s) e);
+    }

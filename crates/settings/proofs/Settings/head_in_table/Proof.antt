@@ -1,0 +1,45 @@
+use Prim.Native.Nat.{_+_}
+use mathlib.Core.Path.{_∙_}
+use Rattle.settings.specs.Table.{table, heads}
+use Rattle.settings.proofs.Fit.{settings-fit}
+use Rattle.settings.proofs.Ranges.{held, meet, last}
+use borrow.Author.Needs.{needs}
+use Rattle.settings.proofs.Settings.head_in_table.Statement.{statement}
+use Rattle.settings.proofs.Settings.head_in_table.Tie as tie
+
+takes-requires : tie.Need-takes-requires
+takes-requires c κs = search needs
+
+takes-requires-2 : tie.Need-takes-requires-2
+takes-requires-2 c κs = search needs
+
+takes-requires-3 : tie.Need-takes-requires-3
+takes-requires-3 c κs = search needs
+
+takes-requires-4 : tie.Need-takes-requires-4
+takes-requires-4 c κs = search needs
+
+takes-requires-5 : tie.Need-takes-requires-5
+takes-requires-5 c κs = search needs
+
+takes-requires-6 : tie.Need-takes-requires-6
+takes-requires-6 c κs = search needs
+
+returns : tie.Need-returns
+unfolding table
+returns c =
+    let s = c .before .before .before .before .before .before .before .before .before .before .before .before in
+    let f = settings-fit (s .args .self) (s .good .0) in
+    meet (c .before .before .before .before .before .before .before .before .before .before .takes .ensures ∙ held 0 (f .action)) (meet (c .before .before .before .before .before .before .before .before .takes2 .ensures ∙ held 1 (f .lo)) (meet (c .before .before .before .before .before .before .takes3 .ensures ∙ held 2 (f .hi)) (meet (c .before .before .before .before .takes4 .ensures ∙ held 3 (f .out)) (meet (c .before .before .takes5 .ensures ∙ held 4 (f .sp)) (last (c .takes6 .ensures ∙ held 5 (f .rate)))))))
+
+pub head-in-table-spec : {M : Type 1} → statement M
+head-in-table-spec =
+    tie.close
+    (tie.spec
+    takes-requires
+    takes-requires-2
+    takes-requires-3
+    takes-requires-4
+    takes-requires-5
+    takes-requires-6
+    returns)

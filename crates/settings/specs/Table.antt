@@ -1,0 +1,116 @@
+-- 01, "Units" and "Settings text": the settings' keys, their order and their ranges.
+use Prim.Native.Nat.{ℕ, zero, suc, _+_, _-_, _*_}
+use Prim.Native.String.{String}
+use mathlib.Core.Bool.{Bool}
+use mathlib.Core.List.{List, [], _∷_, _++_, map}
+use lib.ListN.{length, replicate}
+use lib.Seq.{sets as puts}
+use lib.IntN.{ℤ, pos, negℤ}
+use Rattle.whole.specs.Numbers.{inside}
+use Rattle.settings.specs.declared.table.Row.{Row}
+use Rattle.settings.specs.Words.{bytes}
+
+-- ---- the ends of the ranges
+
+-- temperatures and outputs lie within ±1,000,000
+abbrev pub reach : ℕ
+reach = 1000000
+
+-- a rate is at most 2,000,000
+abbrev pub fastest : ℕ
+fastest = 2000000
+
+-- kp, ki and kd are at most 64 times F
+abbrev pub gain : ℕ
+gain = 4194304
+
+-- alpha and kt are at most F
+abbrev pub share : ℕ
+share = 65536
+
+-- ---- the table
+
+-- a key with its `=` has at most seven bytes
+abbrev pub longestKey : ℕ
+longestKey = 7
+
+-- a key at the front of so many bytes, how many bytes it has, and the least and the most of the value
+abbrev pub row : String → ℤ → ℤ → Row
+row key least most = record {
+  0 = bytes key ++ replicate (longestKey - length (bytes key)) 0;
+  1 = length (bytes key);
+  2 = least;
+  3 = most;
+}
+
+-- what stands past the table's end
+unfoldable pub noRow : Row
+noRow = row "" (pos 0) (pos 0)
+
+-- "action, lo, hi, out, sp, rate"
+abbrev pub headRows : List Row
+headRows =
+    row "action=" (pos 0) (pos 1)
+    ∷ row "lo=" (negℤ (pos reach)) (pos reach)
+    ∷ row "hi=" (negℤ (pos reach)) (pos reach)
+    ∷ row "out=" (negℤ (pos reach)) (pos reach)
+    ∷ row "sp=" (negℤ (pos reach)) (pos reach)
+    ∷ row "rate=" (pos 1) (pos fastest)
+    ∷ []
+
+-- "The last three rows stand in each of four gain sets": the letters of their five keys
+abbrev pub gainRows : List Row
+gainRows =
+    row "kp" (pos 0) (pos gain)
+    ∷ row "ki" (pos 0) (pos gain)
+    ∷ row "kd" (pos 0) (pos gain)
+    ∷ row "alpha" (pos 1) (pos share)
+    ∷ row "kt" (pos 0) (pos share)
+    ∷ []
+
+-- "one constant table of rows"
+unfoldable pub table : List Row
+table = headRows ++ gainRows
+
+-- "four gain sets, 0 to 3"
+abbrev pub sets : ℕ
+sets = 4
+
+-- ---- the rows of the text's lines
+
+-- how many stand before those of the gain sets, how many in each set, and how many there are
+abbrev pub heads : ℕ
+heads = length headRows
+
+abbrev pub keys : ℕ
+keys = length gainRows
+
+abbrev pub lines : ℕ
+lines = heads + keys * sets
+
+-- the row in gain set k: the set's digit and `=` are put after its letters
+abbrev pub numbered : Row → ℕ → Row
+numbered r k = record { 0 = puts (r .0) (r .1) ((48 + k) ∷ bytes "="); 1 = r .1 + 2; 2 = r .2; 3 = r .3 }
+
+-- "kp0 ki0 kd0 alpha0 kt0", with k in the place of 0
+abbrev pub setRows : ℕ → List Row
+setRows k = map (λ r. numbered r k) gainRows
+
+-- what f gives for each element, one after the other
+abbrev pub each : {A B : Type 0} → (B → List A) → List B → List A
+each f [] = []
+each f (b ∷ bs) = f b ++ each f bs
+
+-- n numbers from k on
+abbrev pub numbersFrom : ℕ → ℕ → List ℕ
+numbersFrom k zero = []
+numbersFrom k (suc n) = k ∷ numbersFrom (k + 1) n
+
+-- "action, lo, hi, out, sp, rate, then kp0 ki0 kd0 alpha0 kt0, then the same for sets 1, 2 and 3"
+unfoldable pub rows : List Row
+rows = headRows ++ each setRows (numbersFrom 0 sets)
+
+-- ---- a value within its range
+
+abbrev pub inRow : Row → ℤ → Bool
+inRow r z = inside (r .2) (r .3) z
