@@ -1,8 +1,7 @@
 mod Puts
 mod Steps
 mod Line
-mod Places
+mod Feeds
 mod Pieces
 mod Starts
-mod Numbers
 pub mod promises

@@ -6,7 +6,7 @@ use mathlib.Core.List.{List, [], _∷_, _++_}
 use lib.Dec.{eqb, ltb, leb}
 use lib.ListN.{length, take, drop}
 use lib.Seq.{sets}
-use Rattle.pid.specs.declared.record.Loop.{Loop}
+use Rattle.delivery.specs.declared.numbered.Numbered.{Numbered}
 use Rattle.stream.specs.declared.run.Run.{Run}
 use Rattle.stream.specs.declared.feed.Ran.{Ran}
 use Rattle.stream.specs.Run.{Step, Judged, lineRoom, lineMost, refusing, wordOf, lineStep, keeping}
@@ -16,7 +16,7 @@ use Rattle.stream.specs.Journal.{journalLine}
 -- ---- one byte
 
 -- a line is a delivery for the journal, else a sample
-abbrev pub judgedBy : Bool → Loop → List ℕ → Judged
+abbrev pub judgedBy : Bool → Numbered → List ℕ → Judged
 judgedBy journal l w = cond journal (journalLine l w) (sampleLine l w)
 
 -- a line feed (byte 10) ends the line under way

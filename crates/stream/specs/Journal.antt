@@ -7,34 +7,33 @@ use lib.Dec.{eqb}
 use lib.IntN.{ℤ, pos}
 use lib.ListN.{length, take, drop}
 use Rattle.whole.specs.Numbers.{eqZ}
-use Rattle.pid.specs.declared.record.Command.the-variants.{Sample, Hold, Put, Automatic, Target, Set}
-use Rattle.pid.specs.declared.record.Loop.{Loop}
-use Rattle.pid.specs.declared.delivery.Delivered.{Delivered}
-use Rattle.pid.specs.Delivery.{deliveredOf}
+use Rattle.pid.specs.declared.command.Command.the-variants.{Sample, Hold, Put, Automatic, Target, Set}
+use Rattle.delivery.specs.declared.numbered.Numbered.{Numbered}
+use Rattle.delivery.specs.declared.numbered.Delivered.{Delivered}
+use Rattle.delivery.specs.Numbered.{deliveredOf}
 use Rattle.text.specs.declared.decimal.Decimal.{Decimal}
 use Rattle.text.specs.declared.decimal.Decimal.the-variants as decimal
 use Rattle.text.specs.Decimal.{shown, decimal}
-use Rattle.text.specs.Reader.{begins}
-use Rattle.stream.specs.Words.{bytes}
-use Rattle.stream.specs.Place.{placeOf}
-use Rattle.stream.specs.declared.number.Number.{Number}
-use Rattle.stream.specs.declared.number.Number.the-variants as number
+use Rattle.text.specs.Reader.{endAt, begins}
+use Rattle.settings.specs.Words.{bytes}
+use Rattle.text.specs.declared.number.Number.{Number}
+use Rattle.text.specs.declared.number.Number.the-variants as number
 use Rattle.stream.specs.declared.journal.Asked.{Asked}
 use Rattle.stream.specs.declared.journal.Asked.the-variants as asked
 use Rattle.stream.specs.declared.journal.Delivery.{Delivery}
 use Rattle.stream.specs.declared.journal.Delivery.the-variants.{Is, Wrong}
 use Rattle.stream.specs.Run.{Judged, refused, answered}
-use Rattle.stream.specs.Number.{numberIn, signedIn}
+use Rattle.text.specs.Number.{numberIn, signedIn}
 
 -- ---- words, "one space between" (byte 32)
 
 -- what stands before the first space
 unfoldable pub wordIn : List ℕ → List ℕ
-wordIn s = take (placeOf 32 s) s
+wordIn s = take (endAt 32 s) s
 
 -- what stands after it
 unfoldable pub restIn : List ℕ → List ℕ
-restIn s = drop (placeOf 32 s + 1) s
+restIn s = drop (endAt 32 s + 1) s
 
 -- what stands after a word's key; nothing, which no field has, where the word has another key
 unfoldable pub fieldIn : List ℕ → List ℕ → List ℕ
@@ -123,10 +122,10 @@ answerText code output last = codeKey ++ (shown code ++ (outputKey ++ (decimal o
 abbrev pub journalAnswer : List ℕ → Delivered → Judged
 journalAnswer w d = answered (d .state) (w ++ answerText (d .code) (d .output) (d .number))
 
-abbrev pub byDelivery : Loop → List ℕ → Delivery → Judged
+abbrev pub byDelivery : Numbered → List ℕ → Delivery → Judged
 byDelivery l w Wrong = refused 14
 byDelivery l w (Is n c) = journalAnswer w (deliveredOf l n c)
 
 -- a malformed line is 14
-unfoldable pub journalLine : Loop → List ℕ → Judged
+unfoldable pub journalLine : Numbered → List ℕ → Judged
 journalLine l w = byDelivery l w (deliveryOf w)

@@ -6,9 +6,10 @@ use mathlib.Core.List.{List, [], _++_}
 use lib.Dec.{ltb}
 use lib.ListN.{length, take, set, replicate}
 use lib.Seq.{sets}
-use Rattle.pid.specs.declared.record.Loop.{Loop}
+use Rattle.delivery.specs.declared.numbered.Numbered.{Numbered}
 use Rattle.text.specs.Decimal.{shown}
-use Rattle.stream.specs.Words.{bytes}
+use Rattle.text.specs.Number.{highest}
+use Rattle.settings.specs.Words.{bytes}
 use Rattle.stream.specs.declared.run.Run.{Run}
 use Rattle.stream.specs.declared.run.Told.{Told}
 
@@ -34,10 +35,6 @@ pub record Tells (room : ℕ) (s : Step) (at : ℕ) (before : List ℕ) (r : Tol
 -- the room for a line of the file, which no well-formed line passes
 abbrev pub lineMost : ℕ
 lineMost = 80
-
--- the largest number of 32 bits, 4,294,967,295
-abbrev pub lastNumber : ℕ
-lastNumber = 4294967295
 
 -- ---- a refusal
 
@@ -75,10 +72,10 @@ wordOf r = take (r .len) (r .bytes)
 
 -- the line after a line. One past 4,294,967,295 keeps that number
 abbrev pub following : ℕ → ℕ
-following line = cond (ltb line lastNumber) (line + 1) line
+following line = cond (ltb line highest) (line + 1) line
 
 -- the next line begins, with the loop as this line left it
-abbrev pub nextOf : Run → Loop → Run
+abbrev pub nextOf : Run → Numbered → Run
 nextOf r l = record {
   ended = r .ended;
   journal = r .journal;
@@ -91,7 +88,7 @@ nextOf r l = record {
 -- what a program makes of a whole line: a refusal with its code, or the loop that it leaves and the text that answers it
 pub data Judged : Type 0 where
   refused : ℕ → Judged
-  answered : Loop → List ℕ → Judged
+  answered : Numbered → List ℕ → Judged
 
 abbrev pub lineStep : Run → Judged → Step
 lineStep r (refused code) = refusing r code

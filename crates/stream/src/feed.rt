@@ -5,10 +5,10 @@ ghost use lib.Dec.{ltb};
 ghost use lib.ListN.{length};
 ghost use Rattle.stream.specs.Run.{lineRoom, lineMost, wordOf, lineStep, Tells};
 ghost use Rattle.stream.specs.Feed.{judgedBy, grownOf, lineOf, passing, fedOf, outFed, finishedOf, outFinished, Counts};
-use crate::place::place_of;
 use crate::run::Run;
 use crate::run::Told;
 use text::buffer::put;
+use text::reader::end_at;
 
 // What comes back: whether the lent buffer had room, the run, and how many bytes from the buffer's first on are to be
 // written. Without room nothing was done.
@@ -98,7 +98,7 @@ impl Run {
         let mut at: usize = 0;
         let mut rest = piece;
         while 0 < rest.len() {
-            let end = place_of(10, rest);
+            let end = end_at(rest, b'\n');
             let told = run.take(&rest[..end], end < rest.len(), out, at);
             if end == rest.len() {
                 return told;

@@ -5,18 +5,18 @@ ghost use lib.ListN.{length};
 ghost use lib.Seq.{sets};
 ghost use Rattle.stream.specs.Run.{lineRoom, lineMost, lineStep, Tells};
 ghost use Rattle.stream.specs.Journal.{wordIn, restIn, fieldIn, sameWord, commandOf, asking, deliveryOf, answerText, journalAnswer, journalLine};
-use crate::number::Number;
-use crate::number::signed;
-use crate::place::place_of;
 use crate::run::Run;
 use crate::run::Told;
-use pid::delivery::Delivered;
-use pid::record::Command;
+use delivery::numbered::Delivered;
+use pid::command::Command;
 use text::buffer::put;
 use text::buffer::put_signed;
 use text::buffer::put_unsigned;
 use text::decimal::Decimal;
+use text::number::Number;
+use text::number::signed;
 use text::reader::begins;
+use text::reader::end_at;
 
 // What a line asks: a command under a number, or it is of wrong form.
 enum Delivery {
@@ -34,7 +34,7 @@ enum Asked {
 fn word_in(rest: &[u8]) -> &[u8]
     ensures { λ r. ⌜ now r ≡ wordIn (now (rest .entry)) ⌝ }
 {
-    let end = place_of(32, rest);
+    let end = end_at(rest, b' ');
     &rest[..end]
 }
 
@@ -42,7 +42,7 @@ fn word_in(rest: &[u8]) -> &[u8]
 fn rest_in(rest: &[u8]) -> &[u8]
     ensures { λ r. ⌜ now r ≡ restIn (now (rest .entry)) ⌝ }
 {
-    let end = place_of(32, rest);
+    let end = end_at(rest, b' ');
     if end < rest.len() {
         return &rest[end + 1..];
     }

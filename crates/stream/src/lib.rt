@@ -2,8 +2,6 @@
 // buffer. Each module has its definitions in specs/ under the same name.
 pub mod feed;
 mod journal;
-mod number;
 mod oven;
-mod place;
 pub mod run;
 pub mod start;

@@ -5,15 +5,15 @@ ghost use Rattle.stream.specs.Run.{answered, lineRoom, lineStep, Tells};
 ghost use Rattle.stream.specs.Oven.{outputLine, bySample, sampleLine};
 use crate::run::Run;
 use crate::run::Told;
-use pid::record::Command;
-use pid::record::Loop;
+use delivery::numbered::Numbered;
+use pid::command::Command;
 use text::buffer::put;
 use text::buffer::put_signed;
 use text::decimal::Decimal;
 
 impl Run {
     // "writes each output as a decimal and a line feed"
-    fn answer(self, state: Loop, output: i32, out: &mut [u8], at: usize) -> Told
+    fn answer(self, state: Numbered, output: i32, out: &mut [u8], at: usize) -> Told
         requires { ⌜ at + lineRoom ≤ length (now out) ⌝ }
         ensures { λ r. ⌜ Tells lineRoom (lineStep self (answered state (outputLine output))) at (now (out .entry)) r (now (out .exit)) ⌝ }
     {
@@ -30,7 +30,7 @@ impl Run {
         ensures { λ r. ⌜ Tells lineRoom (lineStep self (bySample (self .state) pv)) at (now (out .entry)) r (now (out .exit)) ⌝ }
     {
         let state = self.state;
-        let last = state.number;
+        let last = state.memory.number;
         if last == u32::MAX {
             return self.refuse(13, out, at);
         }

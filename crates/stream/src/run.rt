@@ -4,7 +4,7 @@ ghost use Prim.Native.Nat.{_+_, _≤_};
 ghost use lib.ListN.{length};
 ghost use lib.Seq.{sets};
 ghost use Rattle.stream.specs.Run.{lineRoom, refusedLine, refusing, following, overOf, nextOf, Tells};
-use pid::record::Loop;
+use delivery::numbered::Numbered;
 use text::buffer::put;
 use text::buffer::put_unsigned;
 
@@ -16,7 +16,7 @@ pub struct Run {
     pub bytes: [u8; 80],
     pub len: usize,
     pub line: u32,
-    pub state: Loop,
+    pub state: Numbered,
 }
 
 // What a step leaves, and the place after what it put.
@@ -61,7 +61,7 @@ impl Run {
     }
 
     // The next line begins.
-    pub(crate) fn next(mut self, state: Loop) -> Run
+    pub(crate) fn next(mut self, state: Numbered) -> Run
         ensures { λ r. ⌜ r ≡ nextOf self state ⌝ }
     {
         let line = following(self.line);

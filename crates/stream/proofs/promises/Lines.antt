@@ -9,10 +9,10 @@ use borrow.Author.Tests.{ltb-true, ltb-false, ne-eqb, eq-eqb}
 use lib.Dec.{eqb, ltb}
 use lib.ListN.{length, length-drop}
 use Rattle.whole.proofs.Truth.{both, by-test, chosen, cond-yes, cond-no}
-use Rattle.pid.specs.declared.record.Loop.{Loop}
-use Rattle.pid.specs.Record.{blankLoop}
+use Rattle.delivery.specs.declared.numbered.Numbered.{Numbered}
+use Rattle.delivery.specs.Numbered.{blankOf}
 use Rattle.text.specs.declared.decimal.Decimal.the-variants.{Wrong}
-use Rattle.text.specs.Decimal.{isSize, hasMinus, unsigned, decimalOf}
+use Rattle.text.specs.Decimal.{mostDigits, isSize, hasMinus, unsigned, decimalOf}
 use Rattle.text.specs.Reader.{readText}
 use Rattle.text.proofs.Digits.{sized, no-size}
 use Rattle.stream.specs.declared.run.Run.{Run}
@@ -35,11 +35,11 @@ fileOf [] rest = rest
 fileOf (w ∷ ws) rest = w ++ (10 ∷ fileOf ws rest)
 
 -- a line of more than 80 bytes is longer than any well-formed one
-abbrev pub judgedLine : Bool → Loop → List ℕ → Judged
+abbrev pub judgedLine : Bool → Numbered → List ℕ → Judged
 judgedLine journal l w = cond (ltb lineMost (length w)) (refused 14) (judgedBy journal l w)
 
 -- "The first refusal ends it": what is written of line n, where next says what the lines after it lead to
-abbrev pub toldBy : ℕ → (Loop → List ℕ) → Judged → List ℕ
+abbrev pub toldBy : ℕ → (Numbered → List ℕ) → Judged → List ℕ
 toldBy n next (refused code) = refusedLine code n
 toldBy n next (answered l text) = text ++ next l
 
@@ -48,9 +48,9 @@ abbrev pub restTold : ℕ → List ℕ → List ℕ
 restTold n [] = []
 restTold n (b ∷ w) = refusedLine 14 n
 
-abbrev pub told : Bool → Loop → ℕ → List (List ℕ) → List ℕ → List ℕ
+abbrev pub told : Bool → Numbered → ℕ → List (List ℕ) → List ℕ → List ℕ
 told journal l n [] rest = restTold n rest
-told journal l n (w ∷ ws) rest = toldBy n (λ (m : Loop). told journal m (following n) ws rest) (judgedLine journal l w)
+told journal l n (w ∷ ws) rest = toldBy n (λ (m : Numbered). told journal m (following n) ws rest) (judgedLine journal l w)
 
 -- ---- the whole file
 
@@ -105,15 +105,15 @@ ready-line r w g =
     ∙ ap (λ (x : List ℕ). lineStep r (judgedBy (r .journal) (r .state) x)) (grown-word r w (g .none) (g .room) (ltb-false lineMost (length w) t))
     ∙ sym (ap (lineStep r) (cond-no _ _ t)))
 
-next-ready : (r : Run) (l : Loop) → Ready r → Ready (nextOf r l)
+next-ready : (r : Run) (l : Numbered) → Ready r → Ready (nextOf r l)
 next-ready r l g = record { going = g .going; none = refl; room = refl }
 
 module _ (rest : List ℕ) (p : plain rest ≡ true) where
   -- what a judged line leads to, where the lines after it are told as next says
   line-told : (r : Run) (ws : List (List ℕ)) (j : Judged) →
-      ((l : Loop) → runOver (nextOf r l) (fileOf ws rest) ≡ told (r .journal) l (following (r .line)) ws rest) →
+      ((l : Numbered) → runOver (nextOf r l) (fileOf ws rest) ≡ told (r .journal) l (following (r .line)) ws rest) →
       lineStep r j .text ++ runOver (lineStep r j .run) (fileOf ws rest)
-      ≡ toldBy (r .line) (λ (l : Loop). told (r .journal) l (following (r .line)) ws rest) j
+      ≡ toldBy (r .line) (λ (l : Numbered). told (r .journal) l (following (r .line)) ws rest) j
   line-told r ws (refused code) f =
       ap (λ (x : List ℕ). refusedLine code (r .line) ++ x) (over-quiet (overOf r) (fileOf ws rest) refl) ∙ append-nil (refusedLine code (r .line))
   line-told r ws (answered l text) f = ap (λ (x : List ℕ). text ++ x) (f l)
@@ -138,7 +138,7 @@ pub settings-refused : (journal : Bool) (settings file : List ℕ) → (readText
 unfolding outputOf begunBy
 settings-refused journal settings file h =
     let d = readText settings in
-    let r = startOf journal (d .line) blankLoop in
+    let r = startOf journal (d .line) blankOf in
     ap (λ (x : Step). x .text ++ runOver (x .run) file) (cond-no _ _ (ne-eqb (d .code) 0 h))
     ∙ ap (λ (x : List ℕ). refusedLine (d .code) (d .line) ++ x) (over-quiet (overOf r) file refl)
     ∙ append-nil (refusedLine (d .code) (d .line))
@@ -162,9 +162,9 @@ unsigned-long w =
 
 long-wrong : (w : List ℕ) → 80 < length w → decimalOf w ≡ Wrong
 long-wrong w h =
-    by-test (isSize (unsigned w)) (λ e. absurd (omega (arith, sized (unsigned w) e .few, unsigned-long w))) (no-size w)
+    by-test (isSize mostDigits (unsigned w)) (λ e. absurd (omega (arith, sized mostDigits (unsigned w) e .few, unsigned-long w))) (no-size w)
 
-pub every-sample-line : (l : Loop) (w : List ℕ) → judgedLine false l w ≡ sampleLine l w
+pub every-sample-line : (l : Numbered) (w : List ℕ) → judgedLine false l w ≡ sampleLine l w
 unfolding sampleLine
 every-sample-line l w =
     by-test (ltb lineMost (length w))

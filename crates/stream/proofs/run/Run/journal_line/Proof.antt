@@ -1,6 +1,6 @@
 use mathlib.Core.Path.{sym, ap, _∙_}
 use denote.Ref.{now}
-use Rattle.pid.specs.declared.delivery.Delivered.{Delivered}
+use Rattle.delivery.specs.declared.numbered.Delivered.{Delivered}
 use Rattle.stream.specs.declared.journal.Delivery.{Delivery}
 use Rattle.stream.specs.Run.{lineStep}
 use Rattle.stream.specs.Journal.{journalAnswer, byDelivery, journalLine}

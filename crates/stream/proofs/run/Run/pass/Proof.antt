@@ -10,7 +10,9 @@ use lib.Seq.{take-all, length-take-le}
 use Rattle.text.proofs.Lists.{part-left}
 use Rattle.stream.specs.Run.{lineRoom}
 use Rattle.stream.specs.Feed.{lineOf}
-use Rattle.stream.proofs.Places.{place-in, place-split, feed-plain, all-plain}
+use Rattle.text.specs.Reader.{feed}
+use Rattle.text.proofs.Words.{end-in}
+use Rattle.stream.proofs.Feeds.{feed-split, feed-plain, all-plain}
 use Rattle.stream.proofs.Line.{part-passing, line-passing}
 use Rattle.stream.proofs.Pieces.{Passed, passed-none, passed-more, passed-all}
 use borrow.Author.Needs.{needs}
@@ -27,12 +29,12 @@ abbrev μ-loop : tie.MeasureT-loop
 loop-holds : tie.Need-loop-holds Inv-loop μ-loop
 loop-holds c = (refl, omega arith, passed-none)
 
-place-of-requires : tie.Need-place-of-requires Inv-loop μ-loop
-place-of-requires c κs = search needs
+end-at-requires : tie.Need-end-at-requires Inv-loop μ-loop
+end-at-requires c κs = search needs
 
 -- the line feed's place lies within the rest, or at its end
-within : (c : tie.After-place-of Inv-loop μ-loop) → c .place-of .result ≤ length (now (c .before .before .loop .rest))
-within c = omega (arith, c .place-of .ensures, place-in 10 (now (c .before .before .loop .rest)))
+within : (c : tie.After-end-at Inv-loop μ-loop) → c .end-at .result ≤ length (now (c .before .before .loop .rest))
+within c = omega (arith, c .end-at .ensures, end-in feed (now (c .before .before .loop .rest)))
 
 slice-aggregate-take : tie.Need-slice-aggregate-take Inv-loop μ-loop
 slice-aggregate-take c = sym (length-take-le _ _ (within (c .before)))
@@ -49,15 +51,15 @@ returns c =
     let p = c .before .before .before .before .before .before in
     let l = c .before .before .before .before .before .before .before .before .loop in
     let s = now (l .rest) in
-    let n = p .place-of .result in
+    let n = p .end-at .result in
     let k = c .before .before .before .take .ensures in
     let h : 0 < length s = omega arith in
     let g : length s ≤ n = omega (arith, c .if1 .taken) in
-    let f = part-passing (l .run) s (all-plain n s (p .place-of .ensures) (c .if1 .taken)) h ∙ sym (ap₂ (lineOf (l .run)) (take-all n s g) (le-ltb n (length s) g)) in
+    let f = part-passing (l .run) s (all-plain n s (p .end-at .ensures) (c .if1 .taken)) h ∙ sym (ap₂ (lineOf (l .run)) (take-all n s g) (le-ltb n (length s) g)) in
     passed-all (omega (arith, k .few, l .inv .1)) (passed-more s [] (sym (append-nil s)) f (l .inv .2) k)
 
 -- past the test the line feed is there
-there : (c : tie.Else1 Inv-loop μ-loop) → c .before .before .before .before .before .before .place-of .result < length (now (c .before .before .before .before .before .before .before .before .loop .rest))
+there : (c : tie.Else1 Inv-loop μ-loop) → c .before .before .before .before .before .before .end-at .result < length (now (c .before .before .before .before .before .before .before .before .loop .rest))
 there c = omega (arith, within (c .before .before .before .before .before .before), c .if1 .left)
 
 add-rest : tie.Need-add-rest Inv-loop μ-loop
@@ -74,10 +76,10 @@ part-rest-end c = search needs
 
 -- how much is left after it
 left : (c : tie.After-rest Inv-loop μ-loop) →
-    let n = c .before .before .before .before .before .before .before .before .place-of .result in
+    let n = c .before .before .before .before .before .before .before .before .end-at .result in
     let s = now (c .before .before .before .before .before .before .before .before .before .before .loop .rest) in
     length (take (length s - (n + 1)) (drop (n + 1) s)) ≡ length s - (n + 1)
-left c = let n = c .before .before .before .before .before .before .before .before .place-of .result in let s = now (c .before .before .before .before .before .before .before .before .before .before .loop .rest) in ap length (part-left s (n + 1)) ∙ length-drop (n + 1) s
+left c = let n = c .before .before .before .before .before .before .before .before .end-at .result in let s = now (c .before .before .before .before .before .before .before .before .before .before .loop .rest) in ap length (part-left s (n + 1)) ∙ length-drop (n + 1) s
 
 loop-less : tie.Need-loop-less Inv-loop μ-loop
 loop-less c = omega (arith, there (c .before .before), left c)
@@ -85,14 +87,14 @@ loop-less c = omega (arith, there (c .before .before), left c)
 loop-again : tie.Need-loop-again Inv-loop μ-loop
 loop-again c =
     let l = c .before .before .before .before .before .before .before .before .before .before .loop in
-    let n = c .before .before .before .before .before .before .before .before .place-of .result in
+    let n = c .before .before .before .before .before .before .before .before .end-at .result in
     let s = now (l .rest) in
-    let e = c .before .before .before .before .before .before .before .before .place-of .ensures in
+    let e = c .before .before .before .before .before .before .before .before .end-at .ensures in
     let h = there (c .before .before) in
     let k = c .before .before .before .before .before .take .ensures in
-    let d = place-split 10 n s e h ∙ ap (λ (x : List ℕ). (take n s ++ (10 ∷ [])) ++ x) (sym (part-left s (n + 1))) in
+    let d = feed-split n s e h ∙ ap (λ (x : List ℕ). (take n s ++ (feed ∷ [])) ++ x) (sym (part-left s (n + 1))) in
     let f = line-passing (l .run) (take n s) (feed-plain n s e) ∙ ap (lineOf (l .run) (take n s)) (sym (lt-ltb n (length s) h)) in
-    (search needs, omega (arith, k .few, l .inv .1, left c), passed-more (take n s ++ (10 ∷ [])) _ d f (l .inv .2) k)
+    (search needs, omega (arith, k .few, l .inv .1, left c), passed-more (take n s ++ (feed ∷ [])) _ d f (l .inv .2) k)
 
 same-length-2 : tie.Need-same-length-2 Inv-loop μ-loop
 same-length-2 c = c .before .loop .inv .0
@@ -110,7 +112,7 @@ pass-spec =
     Inv-loop
     μ-loop
     loop-holds
-    place-of-requires
+    end-at-requires
     slice-aggregate-take
     take-requires
     same-length
