@@ -8,11 +8,11 @@ use lib.IntN.{ℤ}
 use Rattle.whole.specs.Numbers.{plus}
 use Rattle.whole.proofs.Truth.{never, chosen}
 use Rattle.pid.specs.declared.record.Loop.{Loop}
-use Rattle.pid.specs.declared.record.Command.{Command}
-use Rattle.pid.specs.declared.record.Command.the-variants.{Sample, Hold, Put, Automatic, Target, Set}
+use Rattle.pid.specs.declared.command.Command.{Command}
+use Rattle.pid.specs.declared.command.Command.the-variants.{Sample, Hold, Put, Automatic, Target, Set}
 use Rattle.pid.specs.Sample.{actedOf}
 use Rattle.pid.specs.Law.{sampleOf, stepOf}
-use Rattle.pid.specs.Walk.{after}
+use Rattle.pid.specs.Sequence.{after}
 use Rattle.pid.specs.Run.{obeyed, switches, between}
 
 unfoldable pub quiet : Loop → Bool

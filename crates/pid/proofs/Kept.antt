@@ -1,6 +1,6 @@
 -- The state rules hold again after every command that the law accepts.
 use Prim.Native.Nat.{ℕ}
-use mathlib.Core.Path.{_≡_, refl, _∙_}
+use mathlib.Core.Path.{_≡_, refl}
 use mathlib.Core.Bool.{Bool, true, false, not, cond, _&&_, _||_}
 use native.Mathlib.Omega.{arith}
 use borrow.Author.Tests.{lt-ltb, eqb-true, eqb-false}
@@ -11,20 +11,21 @@ use Rattle.whole.specs.Numbers.{plus, inside}
 use Rattle.whole.proofs.Truth.{never, both, chosen, zero-then, zero-else, zero-if}
 use Rattle.whole.proofs.Parts.{zs, inside-yes, yes-inside}
 use Rattle.whole.proofs.Lin.{at}
-use Rattle.pid.specs.declared.settings.Settings.{Settings}
+use Rattle.settings.specs.declared.Settings.{Settings}
 use Rattle.pid.specs.declared.record.Loop.{Loop}
-use Rattle.pid.specs.declared.record.Command.{Command}
-use Rattle.pid.specs.declared.record.Command.the-variants.{Sample, Hold, Put, Automatic, Target, Set}
+use Rattle.pid.specs.declared.command.Command.{Command}
+use Rattle.pid.specs.declared.command.Command.the-variants.{Sample, Hold, Put, Automatic, Target, Set}
 use Rattle.pid.specs.declared.law.Obeyed.{Obeyed}
 use Rattle.pid.specs.Units.{rounded}
-use Rattle.pid.specs.Settings.{sets, inTable, ordered}
-use Rattle.pid.specs.Record.{inReach, inRates, freshOf, lastOk, valid}
+use Rattle.settings.specs.Table.{sets}
+use Rattle.settings.specs.Settings.{inTable, ordered}
+use Rattle.pid.specs.Record.{inReach, inRates, freshOf, valid}
 use Rattle.pid.specs.Sample.{limited, actedOf, movedOf}
 use Rattle.pid.specs.Law.{fixedOf, movingOf, withMode, withTarget, sampleOf, refusalOf, stepOf, lawOf}
 use Rattle.pid.specs.Bounds.{MovingOk}
-use Rattle.pid.proofs.Table.{settings-in}
+use Rattle.settings.proofs.Ranges.{settings-in}
 use Rattle.pid.proofs.Arithmetic.{rounded-between, limited-between}
-use Rattle.pid.proofs.Sound.{Holds, to-sound, last-of, valid-of, holds-of, in-range, range-in, fixed-ok, moving-ok}
+use Rattle.pid.proofs.Sound.{Holds, valid-of, holds-of, in-range, range-in, fixed-ok, moving-ok}
 use Rattle.pid.proofs.Samples.{sensed-ok, acted-ok}
 
 moded : (l : Loop) (a p : Bool) (k : ℕ) → Holds l → ltb k sets ≡ true → (a || not p) ≡ true → Holds (withMode l a p k)
@@ -149,20 +150,8 @@ fresh-holds s t o =
       pending = refl;
     }
 
--- the law does not look at the last number and the last command, and leaves them
-pub step-last : (l : Loop) (c : Command) → lastOk (stepOf l c .number) (stepOf l c .last) ≡ lastOk (l .number) (l .last)
-unfolding stepOf sampleOf
-step-last l (Sample pv) = refl
-step-last l Hold = refl
-step-last l (Put x) = refl
-step-last l Automatic = chosen (λ (x : Loop). lastOk (x .number) (x .last) ≡ lastOk (l .number) (l .last)) (l .automatic) (λ _. refl) (λ _. refl)
-step-last l (Target t r) = refl
-step-last l (Set k) =
-    chosen (λ (x : Loop). lastOk (x .number) (x .last) ≡ lastOk (l .number) (l .last)) (eqb (l .set) (plus k)) (λ _. refl) (λ _. refl)
-
 pub step-valid : (l : Loop) (c : Command) → valid l ≡ true → refusalOf l c ≡ 0 → valid (stepOf l c) ≡ true
-step-valid l c v e =
-    valid-of (stepOf l c) (to-sound (stepOf l c) (step-holds l c (holds-of l v) e)) (step-last l c ∙ last-of l v)
+step-valid l c v e = valid-of (stepOf l c) (step-holds l c (holds-of l v) e)
 
 -- the plain law's three answers
 pub by-law : (P : Obeyed → Type 0) (l : Loop) (c : Command) →

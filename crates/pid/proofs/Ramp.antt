@@ -13,12 +13,12 @@ use Rattle.whole.proofs.Truth.{never, chosen}
 use Rattle.whole.proofs.Parts.{zs, no-minus, no-plus, inside-yes}
 use Rattle.whole.proofs.Lin.{Lin, at, lins}
 use Rattle.pid.specs.declared.record.Loop.{Loop}
-use Rattle.pid.specs.declared.record.Command.{Command}
-use Rattle.pid.specs.declared.record.Command.the-variants.{Sample, Hold, Put, Automatic, Target, Set}
+use Rattle.pid.specs.declared.command.Command.{Command}
+use Rattle.pid.specs.declared.command.Command.the-variants.{Sample, Hold, Put, Automatic, Target, Set}
 use Rattle.pid.specs.Record.{valid}
 use Rattle.pid.specs.Sample.{lesser, ramped, sensedOf, actedOf}
 use Rattle.pid.specs.Law.{sampleOf, stepOf}
-use Rattle.pid.specs.Walk.{after}
+use Rattle.pid.specs.Sequence.{after}
 use Rattle.pid.specs.Run.{obeyed, noTarget, samples, distance, ceiling, samplesToTarget}
 use Rattle.pid.proofs.Sound.{holds-of}
 

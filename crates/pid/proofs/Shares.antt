@@ -12,8 +12,8 @@ use Rattle.whole.proofs.Truth.{both, chosen, cond-yes, cond-no}
 use Rattle.whole.proofs.Parts.{zs, eqZ-yes, Between}
 use Rattle.whole.proofs.Lin.{Lin, at, lins}
 use Rattle.pid.specs.declared.record.Loop.{Loop}
-use Rattle.pid.specs.declared.record.Command.{Command}
-use Rattle.pid.specs.declared.record.Command.the-variants.{Sample, Hold, Put, Automatic, Target, Set}
+use Rattle.pid.specs.declared.command.Command.{Command}
+use Rattle.pid.specs.declared.command.Command.the-variants.{Sample, Hold, Put, Automatic, Target, Set}
 use Rattle.pid.specs.declared.sample.Fixed.{Fixed}
 use Rattle.pid.specs.declared.sample.Moving.{Moving}
 use Rattle.pid.specs.declared.sample.Sensed.{Sensed}
@@ -22,7 +22,7 @@ use Rattle.pid.specs.Record.{inReach, valid}
 use Rattle.pid.specs.Bounds.{FixedOk, MovingOk, SensedOk}
 use Rattle.pid.specs.Sample.{lesser, greater, limited, shareOf, vOf, limitedV, clamped, backCalculated, integrated, newI, actedOf}
 use Rattle.pid.specs.Law.{fixedOf, movingOf, sampleOf, refusalOf, stepOf}
-use Rattle.pid.specs.Walk.{after}
+use Rattle.pid.specs.Sequence.{after}
 use Rattle.pid.specs.Run.{obeyed, accepted, sensedAt, shareAt, withinLimits, ordinaryWithin, unbroken, shares}
 use Rattle.pid.proofs.Arithmetic.{limited-between}
 use Rattle.pid.proofs.Samples.{sensed-ok}

@@ -13,11 +13,12 @@ use Rattle.whole.proofs.Parts.{zs, inside-yes, yes-inside}
 use Rattle.whole.proofs.Lin.{Lin, lins}
 use Rattle.whole.proofs.Num.{nums, stays}
 use Rattle.pid.specs.declared.record.Loop.{Loop}
-use Rattle.pid.specs.Settings.{sets, gainsAt, inTable, ordered}
-use Rattle.pid.specs.Record.{inReach, inRates, inB, inFine, placesOk, fineOk, pendingOk, sound, lastOk, valid}
+use Rattle.settings.specs.Table.{sets}
+use Rattle.settings.specs.Settings.{gainsAt, inTable, ordered}
+use Rattle.pid.specs.Record.{inReach, inRates, inB, inFine, placesOk, fineOk, pendingOk, valid}
 use Rattle.pid.specs.Law.{fixedOf, movingOf}
 use Rattle.pid.specs.Bounds.{FixedOk, MovingOk}
-use Rattle.pid.proofs.Table.{GainsIn, SettingsIn, settings-in}
+use Rattle.settings.proofs.Ranges.{GainsIn, SettingsIn, settings-in}
 
 pub record Holds (l : Loop) : Type 0 where
   pub table : inTable (l .settings) ≡ true
@@ -32,8 +33,9 @@ pub record Holds (l : Loop) : Type 0 where
   pub zero : (l .primed || eqZ (l .y) (pos 0)) ≡ true
   pub pending : pendingOk l ≡ true
 
-pub of-sound : (l : Loop) → sound l ≡ true → Holds l
-of-sound l e =
+pub holds-of : (l : Loop) → valid l ≡ true → Holds l
+unfolding valid
+holds-of l e =
     let T = inTable (l .settings) in
     let O = ordered (l .settings) in
     let U = inside (l .settings .lo) (l .settings .hi) (l .u) in
@@ -68,28 +70,14 @@ of-sound l e =
       pending = p .1;
     }
 
-pub to-sound : (l : Loop) → Holds l → sound l ≡ true
-to-sound l h =
+pub valid-of : (l : Loop) → Holds l → valid l ≡ true
+unfolding valid
+valid-of l h =
     and
     (and
     (and (and (h .table) (h .order)) (and (and (and (and (h .w) (h .target)) (h .rate)) (h .set)) (h .u)))
     (and (and (h .integral) (h .y)) (h .zero)))
     (h .pending)
-
-pub sound-of : (l : Loop) → valid l ≡ true → sound l ≡ true
-unfolding valid
-sound-of l v = both (sound l) (lastOk (l .number) (l .last)) v .0
-
-pub last-of : (l : Loop) → valid l ≡ true → lastOk (l .number) (l .last) ≡ true
-unfolding valid
-last-of l v = both (sound l) (lastOk (l .number) (l .last)) v .1
-
-pub valid-of : (l : Loop) → sound l ≡ true → lastOk (l .number) (l .last) ≡ true → valid l ≡ true
-unfolding valid
-valid-of l s o = and s o
-
-pub holds-of : (l : Loop) → valid l ≡ true → Holds l
-holds-of l v = of-sound l (sound-of l v)
 
 -- ---- ranges and bounds
 

@@ -13,12 +13,12 @@ use Rattle.whole.specs.Numbers.{Within}
 use Rattle.whole.proofs.Truth.{by-test}
 use Rattle.pid.specs.declared.sample.Fixed.{Fixed}
 use Rattle.pid.specs.declared.sample.Moving.{Moving}
-use Rattle.pid.specs.Units.{reach}
+use Rattle.settings.specs.Table.{reach}
 use Rattle.pid.specs.Record.{inReach}
 use Rattle.pid.specs.Sample.{movedOf}
 use Rattle.pid.specs.Bounds.{FixedOk, MovingOk}
-use Rattle.pid.specs.Walk.{after, each}
-use Rattle.pid.specs.Replay.{firstBad, movedAfter, movedOutputs, frontFilled}
+use Rattle.pid.specs.Sequence.{after, each}
+use Rattle.pid.specs.Play.{firstBad, movedAfter, movedOutputs, frontFilled}
 use Rattle.pid.proofs.Sound.{in-range}
 use Rattle.pid.proofs.Samples.{sensed-ok, acted-ok}
 

@@ -1,8 +1,4 @@
 -- What the crate promises: one file for each demand, and 01's own numbers.
 pub mod Demand1
 pub mod Demand2
-pub mod Delivery
-pub mod Demand3
-pub mod Replay
 pub mod Examples
-pub mod Bench

@@ -1,17 +1,18 @@
 -- 01, "The law, one command at a time": what each command does, and what is refused. "The plain law knows no numbers."
-use Prim.Native.Nat.{ℕ}
+use Prim.Native.Nat.{ℕ, _-_}
 use mathlib.Core.Bool.{Bool, true, false, cond, _||_}
 use lib.Dec.{eqb}
 use lib.IntN.{ℤ, pos, negℤ, _*ℤ_}
 use Rattle.whole.specs.Numbers.{plus, eqZ, inside}
-use Rattle.pid.specs.declared.record.Command.{Command}
-use Rattle.pid.specs.declared.record.Command.the-variants.{Sample, Hold, Put, Automatic, Target, Set}
+use Rattle.pid.specs.declared.command.Command.{Command}
+use Rattle.pid.specs.declared.command.Command.the-variants.{Sample, Hold, Put, Automatic, Target, Set}
 use Rattle.pid.specs.declared.record.Loop.{Loop}
 use Rattle.pid.specs.declared.sample.Fixed.{Fixed}
 use Rattle.pid.specs.declared.sample.Moving.{Moving}
 use Rattle.pid.specs.declared.law.Obeyed.{Obeyed}
 use Rattle.pid.specs.Units.{F}
-use Rattle.pid.specs.Settings.{gainsAt}
+use Rattle.settings.specs.Table.{sets}
+use Rattle.settings.specs.Settings.{gainsAt}
 use Rattle.pid.specs.Record.{inReach, inRates, valid}
 use Rattle.pid.specs.Sample.{movedOf}
 
@@ -30,8 +31,6 @@ withMoving l m = record {
   integral = m .integral;
   primed = m .primed;
   y = m .y;
-  number = l .number;
-  last = l .last;
 }
 
 abbrev pub withMode : Loop → Bool → Bool → ℕ → Loop
@@ -47,8 +46,6 @@ withMode l automatic pending set = record {
   integral = l .integral;
   primed = l .primed;
   y = l .y;
-  number = l .number;
-  last = l .last;
 }
 
 abbrev pub withTarget : Loop → ℤ → ℤ → ℤ → Loop
@@ -64,8 +61,6 @@ withTarget l target rate u = record {
   integral = l .integral;
   primed = l .primed;
   y = l .y;
-  number = l .number;
-  last = l .last;
 }
 
 -- ---- what a sample reads of the loop, and what it moves
@@ -142,7 +137,7 @@ targetRefusal t r = cond (inReach t) (cond (inRates r) 0 8) 7
 
 -- "9: no such gain set"
 abbrev pub setRefusal : ℤ → ℕ
-setRefusal k = cond (inside (pos 0) (pos 3) k) 0 9
+setRefusal k = cond (inside (pos 0) (pos (sets - 1)) k) 0 9
 
 unfoldable pub refusalOf : Loop → Command → ℕ
 refusalOf l (Sample pv) = sampleRefusal pv

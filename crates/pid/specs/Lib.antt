@@ -1,11 +1,10 @@
+pub mod Sequence
 pub mod Units
-pub mod Settings
+pub mod SettingsC
+pub mod Command
 pub mod Record
 pub mod Sample
 pub mod Bounds
 pub mod Law
-pub mod Delivery
-pub mod Walk
-pub mod Replay
+pub mod Play
 pub mod Run
-pub mod Bench

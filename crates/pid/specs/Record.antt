@@ -1,18 +1,17 @@
 -- 01, "What a loop remembers": the fresh loop, the blank, the state rules, and the making of a loop.
-use Prim.Native.Nat.{ℕ}
 use mathlib.Core.Bool.{Bool, false, not, cond, _&&_, _||_}
 use lib.Dec.{eqb, ltb}
 use lib.IntN.{ℤ, pos, negℤ}
 use Rattle.whole.specs.Numbers.{eqZ, inside}
-use Rattle.pid.specs.declared.settings.Settings.{Settings}
-use Rattle.pid.specs.declared.record.Last.{Last}
-use Rattle.pid.specs.declared.record.Last.the-variants.{Nothing, Kept}
+use Rattle.settings.specs.declared.Settings.{Settings}
 use Rattle.pid.specs.declared.record.Loop.{Loop}
 use Rattle.pid.specs.declared.record.Made.{Made}
-use Rattle.pid.specs.Units.{B, reach, fineReach, fastest}
-use Rattle.pid.specs.Settings.{sets, inTable, ordered, settingsRefusal, blankSettings}
+use Rattle.pid.specs.Units.{B, fineReach}
+use Rattle.settings.specs.Table.{reach, fastest}
+use Rattle.settings.specs.Table.{sets}
+use Rattle.settings.specs.Settings.{inTable, ordered, settingsRefusal, blankSettings}
 
--- "A fresh loop: manual, not pending, set 0, w = target = sp, rate and u as set, I = 0, not primed, y = 0, last number 0."
+-- "A fresh loop: manual, not pending, set 0, w = target = sp, rate and u as set, I = 0, not primed, y = 0"
 abbrev pub freshOf : Settings → Loop
 freshOf s = record {
   settings = s;
@@ -26,11 +25,9 @@ freshOf s = record {
   integral = pos 0;
   primed = false;
   y = pos 0;
-  number = 0;
-  last = Nothing;
 }
 
--- "the blank: every number zero, manual, every flag no, no last command"
+-- "the blank: every number zero, manual, every flag no"
 unfoldable pub blankLoop : Loop
 blankLoop = record {
   settings = blankSettings;
@@ -44,8 +41,6 @@ blankLoop = record {
   integral = pos 0;
   primed = false;
   y = pos 0;
-  number = 0;
-  last = Nothing;
 }
 
 -- "Making a loop from settings tests 11, then 16. Where making a loop [..] is refused, what stands beside the code is the blank"
@@ -87,15 +82,7 @@ fineOk l = inB (l .integral) && inFine (l .y) && (l .primed || eqZ (l .y) (pos 0
 abbrev pub pendingOk : Loop → Bool
 pendingOk l = l .automatic || not (l .pending)
 
--- "no last command exactly when the last number is 0"
-abbrev pub lastOk : ℕ → Last → Bool
-lastOk n Nothing = eqb n 0
-lastOk n (Kept c) = not (eqb n 0)
-
--- the rules that do not speak of the last number and command. "Settings within the table" asks lo < hi and out in lo..hi too
-abbrev pub sound : Loop → Bool
-sound l = inTable (l .settings) && ordered (l .settings) && placesOk l && fineOk l && pendingOk l
-
--- the state rules, all of them
+-- the state rules of the loop: all of 01's but the one on the last number and command. "Settings within the table" asks lo < hi
+-- and out in lo..hi too
 unfoldable pub valid : Loop → Bool
-valid l = sound l && lastOk (l .number) (l .last)
+valid l = inTable (l .settings) && ordered (l .settings) && placesOk l && fineOk l && pendingOk l

@@ -6,12 +6,12 @@ use lib.Dec.{eqb}
 use lib.IntN.{ℤ, pos, _+ℤ_, _-ℤ_}
 use Rattle.whole.specs.Numbers.{plus, size, eqZ}
 use Rattle.pid.specs.declared.record.Loop.{Loop}
-use Rattle.pid.specs.declared.record.Command.{Command}
-use Rattle.pid.specs.declared.record.Command.the-variants.{Sample, Hold, Put, Automatic, Target, Set}
+use Rattle.pid.specs.declared.command.Command.{Command}
+use Rattle.pid.specs.declared.command.Command.the-variants.{Sample, Hold, Put, Automatic, Target, Set}
 use Rattle.pid.specs.declared.sample.Sensed.{Sensed}
 use Rattle.pid.specs.Sample.{sensedOf, shareOf, vOf, limitedV}
 use Rattle.pid.specs.Law.{fixedOf, movingOf, refusalOf, stepOf}
-use Rattle.pid.specs.Walk.{after}
+use Rattle.pid.specs.Sequence.{after}
 
 -- the law's state after some commands, each given once
 abbrev pub obeyed : Loop → List Command → Loop

@@ -1,5 +1,5 @@
--- 01, "Units": the constants, and rounding.
-use Prim.Native.Nat.{ℕ}
+-- 01, "Units": the constants but those of the settings' ranges, and rounding.
+use Prim.Native.Nat.{ℕ, _+_, _*_, _/_}
 use lib.IntN.{ℤ, pos, _+ℤ_}
 use lib.Signed.{shrZ}
 
@@ -7,29 +7,17 @@ use lib.Signed.{shrZ}
 abbrev pub F : ℕ
 F = 65536
 
+-- a fine amount as 01's tables write it, in units of F: 90.5, that is 90.50, is `fine 90 50`
+abbrev pub fine : ℕ → ℕ → ℤ
+fine n hundredths = pos ((n * 100 + hundredths) * F / 100)
+
 -- "|I| at most B = 16,842,752,000,000"
 abbrev pub B : ℕ
 B = 16842752000000
 
--- temperatures and outputs lie within ±1,000,000
-abbrev pub reach : ℕ
-reach = 1000000
-
 -- the filter, a temperature times F, lies within ±65,536,000,000
 abbrev pub fineReach : ℕ
 fineReach = 65536000000
-
--- a rate is at most 2,000,000
-abbrev pub fastest : ℕ
-fastest = 2000000
-
--- kp, ki and kd are at most 64 times F
-abbrev pub gain : ℕ
-gain = 4194304
-
--- alpha and kt are at most F
-abbrev pub share : ℕ
-share = 65536
 
 -- "Largest P, D and g: 8,388,608,000,000 each, so every product stays below 2,800,000,000,000,000,000."
 abbrev pub part : ℕ

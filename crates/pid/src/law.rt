@@ -3,17 +3,19 @@ ghost use mathlib.Core.Path.{_≡_};
 ghost use mathlib.Core.Bool.{true};
 ghost use Prim.Native.Nat.{_<_};
 ghost use Rattle.whole.specs.Numbers.{plus, Within};
-ghost use Rattle.pid.specs.Units.{reach};
-ghost use Rattle.pid.specs.Settings.{sets, gainsAt};
+ghost use Rattle.settings.specs.Table.{reach};
+ghost use Rattle.settings.specs.Table.{sets};
+ghost use Rattle.settings.specs.Settings.{gainsAt};
 ghost use Rattle.pid.specs.Record.{inReach, valid};
 ghost use Rattle.pid.specs.Law.{signOf, fixedOf, movingOf, withMoving, sampleRefusal, putRefusal, targetRefusal, setRefusal, refusalOf, sampleOf, holdOf, putOf, automaticOf, targetOf, setOf, stepOf, lawOf};
-use crate::record::Command;
+use crate::command::Command;
 use crate::record::Loop;
 use crate::sample::Fixed;
 use crate::sample::Moving;
 use crate::sample::act;
 use crate::sample::sense;
-use crate::settings::Gains;
+use settings::Gains;
+use settings::Settings;
 
 pub struct Obeyed {
     pub code: u8,
@@ -69,10 +71,13 @@ fn refuse_target(t: i32, r: i32) -> u8
     }
 }
 
+// The number of the last gain set.
+const LAST_SET: i32 = Settings::SETS as i32 - 1;
+
 fn refuse_set(k: i32) -> u8
     ensures { λ r. ⌜ r ≡ setRefusal k ⌝ }
 {
-    if whole::lies_in(0, 3, k) { 0 } else { 9 }
+    if whole::lies_in(0, LAST_SET, k) { 0 } else { 9 }
 }
 
 impl Loop {

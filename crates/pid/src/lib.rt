@@ -1,7 +1,7 @@
-// 01's loop, one module for each of its subjects. Each has its definitions in specs/ under the same name.
-pub mod delivery;
+// The plain law of one loop, one module for each subject of 01. Each has its definitions in specs/ under the same name.
+// "The plain law knows no numbers."
+pub mod command;
 pub mod law;
+pub mod play;
 pub mod record;
-pub mod replay;
 mod sample;
-pub mod settings;

@@ -1,22 +1,7 @@
 // What a loop remembers, the state rules, and the making of a loop from settings.
 ghost use mathlib.Core.Path.{_≡_};
-ghost use Rattle.pid.specs.Record.{freshOf, blankLoop, madeOf, placesOk, fineOk, pendingOk, lastOk, valid};
-use crate::settings::Settings;
-
-pub enum Command {
-    Sample(i32),
-    Hold,
-    Put(i32),
-    Automatic,
-    Target(i32, i32),
-    Set(i32),
-}
-
-// The last command kept.
-pub enum Last {
-    Nothing,
-    Kept(Command),
-}
+ghost use Rattle.pid.specs.Record.{freshOf, blankLoop, madeOf, placesOk, fineOk, pendingOk, valid};
+use settings::Settings;
 
 pub struct Loop {
     pub settings: Settings,
@@ -30,8 +15,6 @@ pub struct Loop {
     pub integral: i64,
     pub primed: bool,
     pub y: i64,
-    pub number: u32,
-    pub last: Last,
 }
 
 pub struct Made {
@@ -48,19 +31,19 @@ impl Loop {
     pub const B: i64 = 16_842_752_000_000;
 
     // The most of a temperature and of an output, their signs left aside.
-    pub const REACH: i32 = 1_000_000;
+    pub const REACH: i32 = Settings::REACH;
 
     // The most of the filter, which is a temperature times F, its sign left aside.
     pub const FINE_REACH: i64 = 65_536_000_000;
 
     // The most of a rate.
-    pub const FASTEST: i32 = 2_000_000;
+    pub const FASTEST: i32 = Settings::FASTEST;
 
     // The most of kp, ki and kd: 64 times F.
-    pub const GAIN: i32 = 4_194_304;
+    pub const GAIN: i32 = Settings::GAIN;
 
     // The most of alpha and kt: F itself.
-    pub const SHARE: i32 = 65_536;
+    pub const SHARE: i32 = Settings::SHARE;
 
     pub fn fresh(settings: Settings) -> Loop
         ensures { λ r. ⌜ r ≡ freshOf settings ⌝ }
@@ -77,8 +60,6 @@ impl Loop {
             integral: 0,
             primed: false,
             y: 0,
-            number: 0,
-            last: Last::Nothing,
         }
     }
 
@@ -111,7 +92,7 @@ impl Loop {
             & (self.w <= Loop::REACH)
             & ((-Loop::REACH <= self.target) & (self.target <= Loop::REACH))
             & ((1 <= self.rate) & (self.rate <= Loop::FASTEST))
-            & (self.set < 4)
+            & (self.set < Settings::SETS)
             & ((self.settings.lo <= self.u) & (self.u <= self.settings.hi))
     }
 
@@ -130,27 +111,11 @@ impl Loop {
         self.automatic | !self.pending
     }
 
-    fn last_ok(self) -> bool
-        ensures { λ r. ⌜ r ≡ lastOk (self .number) (self .last) ⌝ }
-    {
-        let n = self.number;
-        let last = self.last;
-        match last {
-            Last::Nothing => n == 0,
-            Last::Kept(_) => n != 0,
-        }
-    }
-
     // Whether the record keeps the state rules.
     pub fn is_valid(self) -> bool
         ensures { λ r. ⌜ r ≡ valid self ⌝ }
     {
         let s = self.settings;
-        s.in_table()
-            & s.is_ordered()
-            & self.places_ok()
-            & self.fine_ok()
-            & self.pending_ok()
-            & self.last_ok()
+        s.in_table() & s.is_ordered() & self.places_ok() & self.fine_ok() & self.pending_ok()
     }
 }

@@ -2,7 +2,8 @@
 // A replay calls them once a sample on what moves and what stays, and puts the record together once, at its end.
 ghost use mathlib.Core.Path.{_≡_};
 ghost use Rattle.whole.specs.Numbers.{Within};
-ghost use Rattle.pid.specs.Units.{reach, fineReach, product, excessMost, rounded};
+ghost use Rattle.settings.specs.Table.{reach};
+ghost use Rattle.pid.specs.Units.{fineReach, product, excessMost, rounded};
 ghost use Rattle.pid.specs.Bounds.{FixedOk, MovingOk, SensedOk, RampOk, FilterOk, SlopeOk, ClampOk, BackOk};
 ghost use Rattle.pid.specs.Sample.{lesser, greater, limited, ramped, filtered, derivative, sensedOf, shareOf, vOf, roomOf, clamped, backCalculated, integrated, ordinaryOf, actedOf};
 use crate::record::Loop;

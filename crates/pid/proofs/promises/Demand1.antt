@@ -8,22 +8,24 @@ use lib.IntN.{ℤ, pos, _-ℤ_, _*ℤ_}
 use Rattle.whole.specs.Numbers.{Within, inside}
 use Rattle.whole.proofs.Truth.{chosen, cond-no, zero-if, zero-then}
 use Rattle.whole.proofs.Num.{nums, stays}
-use Rattle.pid.specs.declared.settings.Settings.{Settings}
+use Rattle.settings.specs.declared.Settings.{Settings}
 use Rattle.pid.specs.declared.record.Loop.{Loop}
-use Rattle.pid.specs.declared.record.Command.{Command}
+use Rattle.pid.specs.declared.command.Command.{Command}
 use Rattle.pid.specs.declared.record.Made.{Made}
 use Rattle.pid.specs.declared.law.Obeyed.{Obeyed}
 use Rattle.pid.specs.declared.sample.Fixed.{Fixed}
 use Rattle.pid.specs.declared.sample.Moving.{Moving}
 use Rattle.pid.specs.declared.sample.Sensed.{Sensed}
-use Rattle.pid.specs.Units.{F, reach, part, product}
-use Rattle.pid.specs.Settings.{rows, blankSettings, settingsRefusal, inTable, ordered}
+use Rattle.pid.specs.Units.{F, part, product}
+use Rattle.settings.specs.Table.{reach}
+use Rattle.settings.specs.Table.{rows}
+use Rattle.settings.specs.Settings.{blankSettings, settingsRefusal, inTable, ordered}
 use Rattle.pid.specs.Record.{freshOf, blankLoop, madeOf, inReach, inB, valid}
 use Rattle.pid.specs.Sample.{sensedOf, shareOf, vOf, limitedV}
 use Rattle.pid.specs.Bounds.{FixedOk, MovingOk}
 use Rattle.pid.specs.Run.{sensedAt}
 use Rattle.pid.specs.Law.{fixedOf, movingOf, lawOf}
-use Rattle.pid.proofs.Sound.{to-sound, valid-of, holds-of, fixed-ok, moving-ok, in-range}
+use Rattle.pid.proofs.Sound.{valid-of, holds-of, fixed-ok, moving-ok, in-range}
 use Rattle.pid.proofs.Samples.{sensed-ok}
 use Rattle.pid.proofs.Arithmetic.{limited-within}
 use Rattle.pid.proofs.Kept.{step-valid, fresh-holds, by-law}
@@ -61,7 +63,7 @@ made-valid s =
     fresh : settingsRefusal s ≡ 0 → valid (freshOf s) ≡ true
     fresh z =
         let t = zero-if (inTable s) (cond (ordered s) 0 16) 10 z in
-        valid-of (freshOf s) (to-sound (freshOf s) (fresh-holds s (t .0) (zero-then (ordered s) 15 (t .1)))) refl
+        valid-of (freshOf s) (fresh-holds s (t .0) (zero-then (ordered s) 15 (t .1)))
 
 -- "The blank breaks the state rules (lo is not below hi)."
 pub blank-broken : valid blankLoop ≡ false

@@ -3,18 +3,19 @@ use mathlib.Core.Path.{_≡_, refl}
 use mathlib.Core.Bool.{true, false}
 use mathlib.Core.List.{List, [], _∷_}
 use lib.IntN.{ℤ, pos, negsuc, _*ℤ_}
-use Rattle.pid.specs.declared.record.Command.{Command}
-use Rattle.pid.specs.declared.record.Command.the-variants.{Sample, Hold, Automatic, Target, Set}
+use Rattle.pid.specs.declared.command.Command.{Command}
+use Rattle.pid.specs.declared.command.Command.the-variants.{Sample, Hold, Automatic, Target, Set}
 use Rattle.pid.specs.declared.record.Loop.{Loop}
 use Rattle.pid.specs.declared.sample.Fixed.{Fixed}
 use Rattle.pid.specs.declared.sample.Moving.{Moving}
-use Rattle.pid.specs.Units.{F, rounded}
-use Rattle.pid.specs.Settings.{rows, inTable}
+use Rattle.pid.specs.Units.{F, fine, rounded}
+use Rattle.settings.specs.Table.{rows}
+use Rattle.settings.specs.Settings.{inTable}
 use Rattle.pid.specs.Record.{freshOf, valid}
 use Rattle.pid.specs.Law.{sampleOf, stepOf, refusalOf}
-use Rattle.pid.specs.Walk.{after}
+use Rattle.pid.specs.Sequence.{after}
 use Rattle.pid.specs.Run.{obeyed, accepted, switches, between, unbroken, shares, samplesToTarget}
-use Rattle.pid.specs.Bench.{settingsC, fine}
+use Rattle.pid.specs.SettingsC.{settingsC}
 use Rattle.pid.specs.Sample.{lesser, greater, limited, ramped, filtered, derivative, sensedOf, clamped, backCalculated, integrated, actedOf, movedOf}
 
 -- "fine 32,767 gives 0, 32,768 gives 1, -32,768 gives 0, -32,769 gives -1"

@@ -1,4 +1,4 @@
-use Rattle.pid.specs.Settings.{blankSettings}
+use Rattle.settings.specs.Settings.{blankSettings}
 use Rattle.pid.specs.Record.{blankLoop}
 use borrow.Author.Needs.{needs}
 use Rattle.pid.proofs.record.Loop.blank.Statement.{statement}

@@ -4,8 +4,9 @@ use mir.Syntax.{w64}
 use mir.Facts.{toZ-ofZ}
 use Rattle.whole.proofs.Num.{Num, nums, num-i32, num-via, fits, gives}
 use Rattle.whole.proofs.Bits.{back, widened}
-use Rattle.pid.specs.Settings.{sets}
-use Rattle.pid.proofs.Fit.{loop-fit, gains-fit}
+use Rattle.settings.specs.Table.{sets}
+use Rattle.settings.proofs.Fit.{gains-fit}
+use Rattle.pid.proofs.Fit.{loop-fit}
 use Rattle.pid.proofs.Shapes.{fixed-is}
 use Rattle.pid.proofs.Sound.{holds-of}
 use borrow.Author.Needs.{needs}

@@ -18,9 +18,6 @@ fine-ok-requires c κs = search needs
 pending-ok-requires : tie.Need-pending-ok-requires
 pending-ok-requires c κs = search needs
 
-last-ok-requires : tie.Need-last-ok-requires
-last-ok-requires c κs = search needs
-
 returns : tie.Need-returns
 unfolding valid
 returns c = cc
@@ -34,5 +31,4 @@ is-valid-spec =
     places-ok-requires
     fine-ok-requires
     pending-ok-requires
-    last-ok-requires
     returns)

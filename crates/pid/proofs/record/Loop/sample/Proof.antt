@@ -7,7 +7,7 @@ use Rattle.whole.proofs.Num.{nums, stays}
 use Rattle.pid.specs.declared.record.Loop.{Loop}
 use Rattle.pid.specs.declared.sample.Fixed.{Fixed}
 use Rattle.pid.specs.declared.sample.Moving.{Moving}
-use Rattle.pid.specs.Units.{reach}
+use Rattle.settings.specs.Table.{reach}
 use Rattle.pid.specs.Record.{inReach, valid}
 use Rattle.pid.specs.Sample.{sensedOf, actedOf, movedOf}
 use Rattle.pid.specs.Bounds.{FixedOk, MovingOk}

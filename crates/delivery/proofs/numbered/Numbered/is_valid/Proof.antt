@@ -1,0 +1,15 @@
+use borrow.Author.Needs.{needs}
+use Rattle.delivery.proofs.numbered.Numbered.is_valid.Statement.{statement}
+use Rattle.delivery.proofs.numbered.Numbered.is_valid.Tie as tie
+
+fits-requires : tie.Need-fits-requires
+fits-requires c κs = search needs
+
+is-valid-requires : tie.Need-is-valid-requires
+is-valid-requires c κs = search needs
+
+returns : tie.Need-returns
+returns c = cc
+
+pub is-valid-spec : {M : Type 1} → statement M
+is-valid-spec = tie.close (tie.spec fits-requires is-valid-requires returns)

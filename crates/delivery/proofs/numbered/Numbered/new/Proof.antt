@@ -1,0 +1,12 @@
+use borrow.Author.Needs.{needs}
+use Rattle.delivery.proofs.numbered.Numbered.new.Statement.{statement}
+use Rattle.delivery.proofs.numbered.Numbered.new.Tie as tie
+
+blank-requires : tie.Need-blank-requires
+blank-requires c κs = search needs
+
+returns : tie.Need-returns
+returns c = cc
+
+pub new-spec : {M : Type 1} → statement M
+new-spec = tie.close (tie.spec blank-requires returns)

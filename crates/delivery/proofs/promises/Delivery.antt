@@ -1,0 +1,109 @@
+-- DEMAND 1, of numbered delivery: "A refused call changes no loop [..]. From any record that passes 01's state rules, power
+-- stays within the loop's limits and the integral within 01's bound." And what 01 says of numbers, from any such record.
+use Prim.Native.Nat.{ℕ, _+_, _≤_}
+use mathlib.Core.Path.{_≡_, refl, sym, ap, _∙_}
+use mathlib.Core.Bool.{true, false, _&&_}
+use mathlib.Core.List.{List}
+use lib.ListN.{length}
+use native.Mathlib.Omega.{arith}
+use borrow.Author.Tests.{eqb-true, eq-eqb}
+use lib.Dec.{eqb}
+use lib.IntN.{pos}
+use Rattle.whole.specs.Numbers.{inside}
+use Rattle.whole.proofs.Truth.{never, both, and, by-test, cond-no}
+use Rattle.settings.specs.declared.Settings.{Settings}
+use Rattle.settings.specs.Table.{rows}
+use Rattle.settings.specs.Settings.{inTable}
+use Rattle.pid.specs.declared.command.Command.{Command}
+use Rattle.pid.specs.Units.{fine}
+use Rattle.pid.specs.Record.{inB, valid}
+use Rattle.pid.specs.Law.{refusalOf, stepOf}
+use Rattle.pid.specs.Sequence.{after}
+use Rattle.pid.proofs.Sound.{holds-of}
+use Rattle.pid.proofs.promises.Demand1 as law
+use Rattle.delivery.specs.declared.numbered.Numbered.{Numbered}
+use Rattle.delivery.specs.declared.numbered.Delivered.{Delivered}
+use Rattle.delivery.specs.Memory.{lastNumber, isLast}
+use Rattle.delivery.specs.Numbered.{recordOf, newOf, madeOf, blankOf, memoryOk, validOf, answerOf, keptOf, deliveredOf}
+use Rattle.delivery.specs.Walk.{Delivery}
+use Rattle.delivery.specs.Demand3.{handedBack, lastOf, keptOn}
+use Rattle.delivery.specs.Bench.{atLimit}
+use Rattle.delivery.proofs.Served.{by-delivery, kept-one, kept-twice, delivered-valid}
+use Rattle.delivery.proofs.Ended.{end-from}
+
+-- "Every loop the software makes keeps them"
+pub made-valid : (s : Settings) → madeOf s .code ≡ 0 → validOf (madeOf s .state) ≡ true
+made-valid s e = and refl (law.made-valid s e)
+
+-- "The blank breaks the state rules (lo is not below hi)."
+pub blank-broken : validOf blankOf ≡ false
+blank-broken = ap (λ b. true && b) law.blank-broken
+
+-- the record that comes back keeps the state rules
+pub again-valid : (s : Numbered) (n : ℕ) (c : Command) → validOf s ≡ true → validOf (deliveredOf s n c .state) ≡ true
+again-valid = delivered-valid
+
+-- the loop's own among them
+loop-valid : (s : Numbered) → validOf s ≡ true → valid (s .state) ≡ true
+loop-valid s v = both (memoryOk s) (valid (s .state)) v .1
+
+-- power within lo..hi
+pub power-within : (s : Numbered) (n : ℕ) (c : Command) → validOf s ≡ true →
+    inside (deliveredOf s n c .state .state .settings .lo) (deliveredOf s n c .state .state .settings .hi) (deliveredOf s n c .state .state .u) ≡ true
+power-within s n c v = holds-of (deliveredOf s n c .state .state) (loop-valid (deliveredOf s n c .state) (again-valid s n c v)) .u
+
+-- the integral within ±B
+pub integral-within : (s : Numbered) (n : ℕ) (c : Command) → validOf s ≡ true → inB (deliveredOf s n c .state .state .integral) ≡ true
+integral-within s n c v = holds-of (deliveredOf s n c .state .state) (loop-valid (deliveredOf s n c .state) (again-valid s n c v)) .integral
+
+-- "Every refusal hands back the record that came in."
+pub refused-back : (s : Numbered) (n : ℕ) (c : Command) → (deliveredOf s n c .code ≡ 0 → ⊥) → deliveredOf s n c .state ≡ s
+refused-back s n c =
+    by-delivery (λ (r : Delivered). (r .code ≡ 0 → ⊥) → r .state ≡ s) s n c
+    (λ _ _. refl) (λ _ _ _ _. refl) (λ _ _ _ _ _. refl) (λ _ _ _ f. absurd (f refl))
+
+-- "A record breaking the state rules gets code 10, output 0 and number 0."
+pub broken-ten : (s : Numbered) (n : ℕ) (c : Command) → validOf s ≡ false →
+    deliveredOf s n c ≡ record { code = 10; output = pos 0; number = 0; state = s }
+unfolding deliveredOf
+broken-ten s n c v = cond-no _ _ v
+
+-- "Number = last + 1: the law is tried; accepted, the number and command are remembered"
+pub kept-is-law : (s : Numbered) (n : ℕ) (c : Command) → validOf s ≡ true → n ≡ s .memory .number + 1 → refusalOf (s .state) c ≡ 0 →
+    deliveredOf s n c ≡ answerOf 0 (keptOf (stepOf (s .state) c) n c)
+kept-is-law = kept-one
+
+-- every other delivery leaves the record that came in: a repeat, an old or reused number, a gap, content that the law refuses
+pub other-leaves : (s : Numbered) (n : ℕ) (c : Command) → (n ≡ s .memory .number + 1 → refusalOf (s .state) c ≡ 0 → ⊥) → deliveredOf s n c .state ≡ s
+other-leaves s n c f =
+    by-delivery (λ (r : Delivered). r .state ≡ s) s n c
+    (λ _. refl) (λ _ _ _. refl) (λ _ _ _ _. refl) (λ _ e z. absurd (f e z))
+
+-- "every command carries a number, and a second delivery of it must write nothing": whatever the first delivery did, the
+-- second gets the same answer and leaves the same record
+pub second-writes-nothing : (s : Numbered) (n : ℕ) (c : Command) → deliveredOf (deliveredOf s n c .state) n c ≡ deliveredOf s n c
+second-writes-nothing s n c =
+    by-test (validOf s)
+    (λ v. by-test (eqb n (s .memory .number + 1) && eqb (refusalOf (s .state) c) 0)
+    (λ e. let b = both (eqb n (s .memory .number + 1)) (eqb (refusalOf (s .state) c) 0) e in
+    kept-twice s n c v (eqb-true n (s .memory .number + 1) (b .0)) (eqb-true (refusalOf (s .state) c) 0 (b .1)))
+    (λ e. ap (λ (x : Numbered). deliveredOf x n c) (other-leaves s n c (λ p q. never (sym e ∙ and (eq-eqb n (s .memory .number + 1) p) (eq-eqb (refusalOf (s .state) c) 0 q))))))
+    (λ v. ap (λ (r : Delivered). deliveredOf (r .state) n c) (broken-ten s n c v))
+
+-- "After number 4,294,967,295 only its repeat is served."
+pub last-number : (s : Numbered) (n : ℕ) (c : Command) → s .memory .number ≡ lastNumber → n ≤ lastNumber → deliveredOf s n c .code ≡ 0 →
+    (n ≡ s .memory .number) × (isLast (s .memory .last) c ≡ true)
+last-number s n c e h =
+    by-delivery (λ (r : Delivered). r .code ≡ 0 → (n ≡ s .memory .number) × (isLast (s .memory .last) c ≡ true)) s n c
+    (λ _ z. absurd (omega (arith, z))) (λ _ _ f z. absurd (f z)) (λ _ q _ t _. (q, t)) (λ _ q _ _. absurd (omega (arith, q)))
+
+-- the end state after a list, from any record that keeps the rules: the law's after the kept commands, the count, the last
+pub end-state : (s : Numbered) (ds : List (Delivery Command)) → validOf s ≡ true →
+    after handedBack s ds
+    ≡ recordOf (after stepOf (s .state) (keptOn s ds)) (s .memory .number + length (keptOn s ds)) (lastOf (s .memory .last) (keptOn s ds))
+end-state s ds v = end-from s v ds
+
+-- a record that keeps the state rules and is never reached: automatic, with nothing kept
+pub never-reached : validOf (newOf (atLimit 0 (fine 900 0))) ≡ true
+unfolding valid inTable rows
+never-reached = refl

@@ -1,0 +1,86 @@
+-- DEMAND 3. "Start a loop from accepted settings and deliver any list at all: repeats, old numbers, gaps, reused numbers, bad
+-- values. Walk the list, keeping a delivery when its number is one more than the count kept so far and the law accepts its
+-- content in the state reached. The end state is the law's after the kept commands, each given once. A kept delivery gets
+-- the law's output, an exact repeat of the latest kept one gets that same answer, and every other gets its named refusal."
+--
+-- The walk stands in Walk.antt, over any law; here are 01's plain law, what `deliver` makes of a list, and the demand itself.
+use Prim.Native.Nat.{ℕ, _+_}
+use mathlib.Core.Path.{_≡_}
+use mathlib.Core.List.{List, [], _∷_}
+use lib.IntN.{ℤ}
+use lib.ListN.{length}
+use Rattle.pid.specs.declared.command.Command.{Command}
+use Rattle.pid.specs.declared.record.Loop.{Loop}
+use Rattle.pid.specs.Command.{same}
+use Rattle.pid.specs.Law.{refusalOf, stepOf}
+use Rattle.pid.specs.Sequence.{after, each}
+use Rattle.delivery.specs.declared.memory.Last.{Last}
+use Rattle.delivery.specs.declared.memory.Last.the-variants.{Nothing, Kept as Last·Kept}
+use Rattle.delivery.specs.declared.numbered.Numbered.{Numbered}
+use Rattle.delivery.specs.declared.numbered.Delivered.{Delivered}
+use Rattle.delivery.specs.Numbered.{recordOf, deliveredOf}
+use Rattle.delivery.specs.Walk.{Law, Delivery, Answer, Kept, Walk, start, onward, answerTo, kept}
+
+-- 01's loop: "The plain law knows no numbers."
+abbrev pub plain : Law
+plain = record {
+  State = Loop;
+  Command = Command;
+  Output = ℤ;
+  same = same;
+  refusal = refusalOf;
+  step = stepOf;
+  output = λ l. l .u;
+}
+
+-- how many kept deliveries are remembered: "an exact repeat of the latest kept one"
+unfoldable pub window : ℕ
+window = 1
+
+-- the answer in what `deliver` returns
+abbrev pub answerIn : Delivered → Answer ℤ
+answerIn r = record { code = r .code; output = r .output; number = r .number }
+
+-- what a delivery is answered, and the record that it hands back
+abbrev pub answered : Numbered → Delivery Command → Answer ℤ
+answered s d = answerIn (deliveredOf s (d .number) (d .command))
+
+abbrev pub handedBack : Numbered → Delivery Command → Numbered
+handedBack s d = deliveredOf s (d .number) (d .command) .state
+
+abbrev pub keptFrom : Loop → List (Delivery Command) → List Command
+keptFrom l ds = kept plain window (start plain window l) ds
+
+-- the last of some commands, and m where there is none
+unfoldable pub lastOf : Last → List Command → Last
+lastOf m [] = m
+lastOf m (c ∷ cs) = lastOf (Last·Kept c) cs
+
+-- DEMAND 3 of the deliveries ds to a record s
+pub record Demand3 (s : Numbered) (ds : List (Delivery Command)) : Type 0 where
+  -- "The end state is the law's after the kept commands, each given once": the law's state, their count, the last of them
+  pub end-state :
+      after handedBack s ds
+      ≡ recordOf (after stepOf (s .state) (keptFrom (s .state) ds)) (length (keptFrom (s .state) ds)) (lastOf Nothing (keptFrom (s .state) ds))
+  -- "A kept delivery gets the law's output, an exact repeat of the latest kept one gets that same answer, and every other
+  -- gets its named refusal."
+  pub answers : each handedBack answered s ds ≡ each (onward plain window) (answerTo plain window) (start plain window (s .state)) ds
+
+-- ---- from any record that keeps the state rules, also one never reached
+
+-- the latest kept delivery, as a record remembers it: its answer is the one that stands
+unfoldable pub recalled : Numbered → Last → List (Kept plain)
+recalled s Nothing = []
+recalled s (Last·Kept c) =
+    record {
+      sent = record { number = s .memory .number; command = c };
+      answer = record { code = 0; output = s .state .u; number = s .memory .number };
+    }
+    ∷ []
+
+-- where a walk stands that has come to s
+abbrev pub standing : Numbered → Walk plain
+standing s = record { state = s .state; count = s .memory .number; recent = recalled s (s .memory .last) }
+
+abbrev pub keptOn : Numbered → List (Delivery Command) → List Command
+keptOn s ds = kept plain window (standing s) ds

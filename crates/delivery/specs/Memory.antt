@@ -1,0 +1,48 @@
+-- 01, "Numbered delivery": what is remembered, and the order of the numbers. No loop is looked into here.
+use Prim.Native.Nat.{ℕ, _+_}
+use mathlib.Core.Bool.{Bool, false, not, cond, _||_}
+use lib.Dec.{eqb, ltb}
+use Rattle.pid.specs.declared.command.Command.{Command}
+use Rattle.pid.specs.Command.{same}
+use Rattle.delivery.specs.declared.memory.Last.{Last}
+use Rattle.delivery.specs.declared.memory.Last.the-variants.{Nothing, Kept}
+use Rattle.delivery.specs.declared.memory.Memory.{Memory}
+use Rattle.delivery.specs.declared.memory.Found.{Found}
+use Rattle.delivery.specs.declared.memory.Found.the-variants.{Old, Reused, Repeated, Ahead, Next}
+
+-- a number is "32 bits unsigned": 4,294,967,295 is the last
+abbrev pub lastNumber : ℕ
+lastNumber = 4294967295
+
+-- "last number 0", "no last command"
+abbrev pub noMemory : Memory
+noMemory = record { number = 0; last = Nothing }
+
+-- "accepted, the number and command are remembered"
+abbrev pub remembered : ℕ → Command → Memory
+remembered number c = record { number = number; last = Kept c }
+
+-- a state rule: "no last command exactly when the last number is 0"
+abbrev pub lastOk : ℕ → Last → Bool
+lastOk n Nothing = eqb n 0
+lastOk n (Kept c) = not (eqb n 0)
+
+-- whether c is the last command kept, with same values
+unfoldable pub isLast : Last → Command → Bool
+isLast Nothing c = false
+isLast (Kept d) c = same d c
+
+-- what becomes of a delivery. "then 1, 2, 3; then content":
+--   Old, code 1: "number below last, or number 0"
+--   Reused, code 2: "number = last, at least 1, other command or value"
+--   Repeated: "Number = last, at least 1, same command with same values: a repeat"
+--   Ahead, code 3: "number above last + 1"
+--   Next: "Number = last + 1: the law is tried"
+unfoldable pub foundBy : ℕ → ℕ → Bool → Found
+foundBy number last repeats =
+    cond (eqb number 0 || ltb number last) Old
+    (cond (eqb number last) (cond repeats Repeated Reused)
+    (cond (ltb (last + 1) number) Ahead Next))
+
+abbrev pub foundOf : Memory → ℕ → Command → Found
+foundOf m number c = foundBy number (m .number) (isLast (m .last) c)

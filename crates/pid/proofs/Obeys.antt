@@ -1,0 +1,48 @@
+-- What the plain law answers, case by case: the crates above look no further into it.
+use Prim.Native.Nat.{ℕ, _-_}
+use mathlib.Core.Path.{_≡_}
+use mathlib.Core.Bool.{true, false, cond}
+use native.Mathlib.Omega.{arith}
+use borrow.Author.Tests.{eq-eqb, ne-eqb}
+use lib.IntN.{ℤ, pos}
+use Rattle.whole.specs.Numbers.{inside}
+use Rattle.whole.proofs.Truth.{chosen}
+use Rattle.settings.specs.Table.{sets}
+use Rattle.pid.specs.declared.command.Command.{Command}
+use Rattle.pid.specs.declared.command.Command.the-variants.{Sample, Hold, Put, Automatic, Target, Set}
+use Rattle.pid.specs.declared.record.Loop.{Loop}
+use Rattle.pid.specs.Record.{inReach, inRates, valid}
+use Rattle.pid.specs.Law.{refusalOf, stepOf, lawOf}
+
+module _ (l : Loop) (c : Command) where
+  pub obeys : valid l ≡ true → refusalOf l c ≡ 0 → lawOf l c ≡ record { code = 0; state = stepOf l c }
+  unfolding lawOf
+  obeys v e = rw (v, eq-eqb _ 0 e)
+
+  pub refuses : valid l ≡ true → (refusalOf l c ≡ 0 → ⊥) → lawOf l c ≡ record { code = refusalOf l c; state = l }
+  unfolding lawOf
+  refuses v e = rw (v, ne-eqb _ 0 e)
+
+  pub breaks : valid l ≡ false → lawOf l c ≡ record { code = 10; state = l }
+  unfolding lawOf
+  breaks v = rw v
+
+-- a sample within ±1,000,000 is taken
+pub sample-taken : (l : Loop) (pv : ℤ) → inReach pv ≡ true → refusalOf l (Sample pv) ≡ 0
+unfolding refusalOf
+sample-taken l pv e = rw e
+
+-- 10 is no refusal of a command's content
+pub never-ten : (l : Loop) (c : Command) → refusalOf l c ≡ 10 → ⊥
+unfolding refusalOf
+never-ten l (Sample pv) = chosen (λ (n : ℕ). n ≡ 10 → ⊥) (inReach pv) (λ _ e. omega (arith, e)) (λ _ e. omega (arith, e))
+never-ten l Hold = λ e. omega (arith, e)
+never-ten l (Put x) =
+    chosen (λ (n : ℕ). n ≡ 10 → ⊥) (l .automatic) (λ _ e. omega (arith, e))
+    (λ _. chosen (λ (n : ℕ). n ≡ 10 → ⊥) (inside (l .settings .lo) (l .settings .hi) x) (λ _ e. omega (arith, e)) (λ _ e. omega (arith, e)))
+never-ten l Automatic = λ e. omega (arith, e)
+never-ten l (Target t r) =
+    chosen (λ (n : ℕ). n ≡ 10 → ⊥) (inReach t)
+    (λ _. chosen (λ (n : ℕ). n ≡ 10 → ⊥) (inRates r) (λ _ e. omega (arith, e)) (λ _ e. omega (arith, e)))
+    (λ _ e. omega (arith, e))
+never-ten l (Set k) = chosen (λ (n : ℕ). n ≡ 10 → ⊥) (inside (pos 0) (pos (sets - 1)) k) (λ _ e. omega (arith, e)) (λ _ e. omega (arith, e))

@@ -1,0 +1,125 @@
+-- A list of samples under the plain law: it is done on what moves, and what is answered and written, code by code.
+use Prim.Native.Nat.{ℕ, _<_, _≤_}
+use mathlib.Core.Path.{_≡_, refl, ap, _∙_}
+use mathlib.Core.Bool.{true, false, cond}
+use mathlib.Core.List.{List, [], _∷_, map}
+use native.Mathlib.Omega.{arith}
+use borrow.Author.Tests.{eqb-true, eqb-false, ne-eqb, lt-ltb, le-ltb, ltb-false}
+use lib.Dec.{eqb, ltb}
+use lib.IntN.{ℤ}
+use lib.ListN.{length}
+use Rattle.whole.proofs.Truth.{by-test, zero-if, zero-else}
+use Rattle.pid.specs.declared.command.Command.the-variants.{Sample}
+use Rattle.pid.specs.declared.record.Loop.{Loop}
+use Rattle.pid.specs.declared.sample.Moving.{Moving}
+use Rattle.pid.specs.declared.play.Played.{Played}
+use Rattle.pid.specs.Record.{valid}
+use Rattle.pid.specs.Sample.{movedOf}
+use Rattle.pid.specs.Law.{withMoving, fixedOf, sampleOf, stepOf}
+use Rattle.pid.specs.Sequence.{after, each}
+use Rattle.pid.specs.Play.{sampled, afterSamples, outputsOf, firstBad, playRefusal, refusedOf, playedOf, frontFilled, wroteOf, movedAfter, movedOutputs}
+use Rattle.pid.proofs.Turns.{bad-most, each-length}
+
+-- ---- the law's samples are done on what moves
+
+pub after-moved : (l : Loop) (m : Moving) (pvs : List ℤ) → afterSamples (withMoving l m) pvs ≡ withMoving l (movedAfter (fixedOf l) m pvs)
+unfolding after stepOf sampleOf
+after-moved l m [] = refl
+after-moved l m (pv ∷ pvs) = after-moved l (movedOf (fixedOf l) m pv) pvs
+
+pub outputs-moved : (l : Loop) (m : Moving) (pvs : List ℤ) → outputsOf (withMoving l m) pvs ≡ movedOutputs (fixedOf l) m pvs
+unfolding each stepOf sampleOf
+outputs-moved l m [] = refl
+outputs-moved l m (pv ∷ pvs) = ap (λ (us : List ℤ). movedOf (fixedOf l) m pv .u ∷ us) (outputs-moved l (movedOf (fixedOf l) m pv) pvs)
+
+-- given as commands, they do the same
+pub after-commands : (l : Loop) (pvs : List ℤ) → after stepOf l (map Sample pvs) ≡ afterSamples l pvs
+unfolding after
+after-commands l [] = refl
+after-commands l (pv ∷ pvs) = after-commands (sampled l pv) pvs
+
+pub outputs-length : (l : Loop) (pvs : List ℤ) → length (outputsOf l pvs) ≡ length pvs
+outputs-length l pvs = each-length sampled (λ m pv. sampled m pv .u) l pvs
+
+-- ---- the order
+
+module _ (l : Loop) (pvs : List ℤ) (room : ℕ) where
+  pub code-10 : valid l ≡ false → playRefusal l pvs room ≡ 10
+  unfolding playRefusal
+  code-10 v = rw v
+
+  module _ (v : valid l ≡ true) where
+    pub code-12 : room < length pvs → playRefusal l pvs room ≡ 12
+    unfolding playRefusal
+    code-12 h = rw (v, lt-ltb room (length pvs) h)
+
+    module _ (long : length pvs ≤ room) where
+      pub code-4 : firstBad pvs < length pvs → playRefusal l pvs room ≡ 4
+      unfolding playRefusal
+      code-4 h = rw (v, le-ltb room (length pvs) long, lt-ltb (firstBad pvs) (length pvs) h)
+
+      pub code-0 : length pvs ≤ firstBad pvs → playRefusal l pvs room ≡ 0
+      unfolding playRefusal
+      code-0 h = rw (v, le-ltb room (length pvs) long, le-ltb (firstBad pvs) (length pvs) h)
+
+module _ (l : Loop) (pvs out : List ℤ) where
+  -- what is answered and what is written
+  abbrev pub Plays : Played → List ℤ → Type 0
+  Plays r written = (r ≡ playedOf l pvs (length out)) × (written ≡ wroteOf l pvs out)
+
+  pub plays-refused : (code : ℕ) → playRefusal l pvs (length out) ≡ code → (code ≡ 0 → ⊥) →
+      Plays (refusedOf l code (cond (eqb code 4) (firstBad pvs) 0)) out
+  unfolding playedOf wroteOf
+  plays-refused code e z = (rw (e, ne-eqb code 0 z), rw (e, ne-eqb code 0 z))
+
+  pub plays-done : playRefusal l pvs (length out) ≡ 0 →
+      Plays (record { code = 0; place = 0; state = afterSamples l pvs }) (frontFilled (outputsOf l pvs) out)
+  unfolding playedOf wroteOf
+  plays-done e = (rw e, rw e)
+
+-- what an accepted list has
+pub record Playable (l : Loop) (pvs : List ℤ) (room : ℕ) : Type 0 where
+  pub rules : valid l ≡ true
+  pub long : length pvs ≤ room
+  pub good : firstBad pvs ≡ length pvs
+
+pub playable : (l : Loop) (pvs : List ℤ) (room : ℕ) → playRefusal l pvs room ≡ 0 → Playable l pvs room
+unfolding playRefusal
+playable l pvs room e =
+    let v = zero-if (valid l) _ 9 e in
+    let r = zero-else (ltb room (length pvs)) 11 _ (v .1) in
+    let b = zero-else (ltb (firstBad pvs) (length pvs)) 3 0 (r .1) in
+    let most = bad-most pvs in
+    let least = ltb-false (firstBad pvs) (length pvs) (b .0) in
+    record { rules = v .0; long = ltb-false room (length pvs) (r .0); good = omega arith }
+
+-- what the answer of a list tells
+module _ (l : Loop) (pvs out : List ℤ) where
+  abbrev code : ℕ
+  code = playRefusal l pvs (length out)
+
+  -- of one that is refused
+  pub record Refused : Type 0 where
+    pub refusal : playRefusal l pvs (length out) ≡ playedOf l pvs (length out) .code
+    pub place : playedOf l pvs (length out) .place ≡ cond (eqb (playedOf l pvs (length out) .code) 4) (firstBad pvs) 0
+    pub list : wroteOf l pvs out ≡ out
+
+  pub played-refused : (playedOf l pvs (length out) .code ≡ 0 → ⊥) → Refused
+  unfolding playedOf wroteOf
+  played-refused f =
+      by-test (eqb code 0)
+      (λ e. absurd (f (rw e)))
+      (λ e. record { refusal = rw e; place = rw e; list = rw e })
+
+  -- of one that is done
+  pub record Done : Type 0 where
+    pub refusal : playRefusal l pvs (length out) ≡ 0
+    pub state : playedOf l pvs (length out) .state ≡ afterSamples l pvs
+    pub list : wroteOf l pvs out ≡ frontFilled (outputsOf l pvs) out
+
+  pub played-done : playedOf l pvs (length out) .code ≡ 0 → Done
+  unfolding playedOf wroteOf
+  played-done z =
+      by-test (eqb code 0)
+      (λ e. record { refusal = eqb-true code 0 e; state = rw e; list = rw e })
+      (λ e. absurd (eqb-false code 0 e (rw e at z)))

@@ -1,0 +1,68 @@
+-- A list of samples under the plain law, with a list whose front takes the outputs: what 01's replay stands on.
+use Prim.Native.Nat.{ℕ, suc}
+use mathlib.Core.Bool.{cond}
+use mathlib.Core.List.{List, [], _∷_, _++_}
+use lib.Dec.{eqb, ltb}
+use lib.IntN.{ℤ}
+use lib.ListN.{length, drop}
+use Rattle.pid.specs.declared.command.Command.the-variants.{Sample}
+use Rattle.pid.specs.declared.record.Loop.{Loop}
+use Rattle.pid.specs.declared.sample.Fixed.{Fixed}
+use Rattle.pid.specs.declared.sample.Moving.{Moving}
+use Rattle.pid.specs.declared.play.Played.{Played}
+use Rattle.pid.specs.Record.{inReach, valid}
+use Rattle.pid.specs.Sample.{movedOf}
+use Rattle.pid.specs.Law.{stepOf}
+use Rattle.pid.specs.Sequence.{after, each}
+
+-- ---- the samples, each given once, in order
+
+abbrev pub sampled : Loop → ℤ → Loop
+sampled l pv = stepOf l (Sample pv)
+
+-- the loop after them, and the output after each
+abbrev pub afterSamples : Loop → List ℤ → Loop
+afterSamples l samples = after sampled l samples
+
+abbrev pub outputsOf : Loop → List ℤ → List ℤ
+outputsOf l samples = each sampled (λ m pv. sampled m pv .u) l samples
+
+-- ---- what is refused
+
+-- "the place of the first bad sample", "counted from 0"; the length where none is bad
+unfoldable pub firstBad : List ℤ → ℕ
+firstBad [] = 0
+firstBad (pv ∷ pvs) = cond (inReach pv) (suc (firstBad pvs)) 0
+
+-- "10 [..] 12 [..] then 4": of a replay's order, what the law itself tests. room is the output list's length
+unfoldable pub playRefusal : Loop → List ℤ → ℕ → ℕ
+playRefusal l samples room =
+    cond (valid l) (cond (ltb room (length samples)) 12 (cond (ltb (firstBad samples) (length samples)) 4 0)) 10
+
+-- ---- what comes back
+
+-- "On a refusal neither record nor list changes"
+abbrev pub refusedOf : Loop → ℕ → ℕ → Played
+refusedOf l code place = record { code = code; place = place; state = l }
+
+-- "then 4, with the place of the first bad sample"; "for every code but 4 the place is 0"
+unfoldable pub playedOf : Loop → List ℤ → ℕ → Played
+playedOf l samples room =
+    let code = playRefusal l samples room in
+    cond (eqb code 0) (record { code = 0; place = 0; state = afterSamples l samples }) (refusedOf l code (cond (eqb code 4) (firstBad samples) 0))
+
+-- "the first n places hold the outputs, every later place keeps its number"
+abbrev pub frontFilled : List ℤ → List ℤ → List ℤ
+frontFilled outputs out = outputs ++ drop (length outputs) out
+
+-- what the output list holds afterwards
+unfoldable pub wroteOf : Loop → List ℤ → List ℤ → List ℤ
+wroteOf l samples out = cond (eqb (playRefusal l samples (length out)) 0) (frontFilled (outputsOf l samples) out) out
+
+-- ---- the samples on what moves alone, where each is good
+
+abbrev pub movedAfter : Fixed → Moving → List ℤ → Moving
+movedAfter f m samples = after (movedOf f) m samples
+
+abbrev pub movedOutputs : Fixed → Moving → List ℤ → List ℤ
+movedOutputs f m samples = each (movedOf f) (λ n pv. movedOf f n pv .u) m samples
