@@ -49,9 +49,9 @@ fn turn(fd: i32, run: Run, path: &[u8], out: &mut [u8]) -> Left {
 }
 
 // A proved loop has to end, and nothing says that a file does, so it counts its turns down from a number that no file
-// outlives. `stream` asks 128 bytes of the output for each byte of a piece: this is the room for 4,096.
+// outlives. The output has room for what a piece of 4,096 bytes can lead to, and is made once.
 fn turns(fd: i32, run: Run, path: &[u8]) -> Left {
-    let mut out = [0u8; 524_288];
+    let mut out = [0u8; 4_096 * Run::ROOM];
     let mut left = u64::MAX;
     let mut now = Left {
         more: true,

@@ -22,10 +22,10 @@ pub struct Ran {
 fn too_long(len: usize, part: &[u8]) -> bool
     ensures { λ r. ⌜ r ≡ ltb lineMost (len + length (now (part .entry))) ⌝ }
 {
-    if 80 < len {
+    if Run::LINE < len {
         return true;
     }
-    80 - len < part.len()
+    Run::LINE - len < part.len()
 }
 
 impl Run {
@@ -116,7 +116,7 @@ impl Run {
         ensures { λ _. ⌜ now (out .exit) ≡ outFed self (now (piece .entry)) (now (out .entry)) ⌝ }
         ensures { λ r. ⌜ Counts (r .len) (now (out .exit)) ⌝ }
     {
-        if out.len() / 128 < piece.len() {
+        if out.len() / Run::ROOM < piece.len() {
             return Ran {
                 done: false,
                 run: self,
@@ -138,7 +138,7 @@ impl Run {
         ensures { λ _. ⌜ now (out .exit) ≡ outFinished self (now (out .entry)) ⌝ }
         ensures { λ r. ⌜ Counts (r .len) (now (out .exit)) ⌝ }
     {
-        if out.len() < 128 {
+        if out.len() < Run::ROOM {
             return Ran {
                 done: false,
                 run: self,

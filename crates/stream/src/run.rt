@@ -13,10 +13,18 @@ use text::buffer::put_unsigned;
 pub struct Run {
     pub ended: bool,
     pub journal: bool,
-    pub bytes: [u8; 80],
+    pub bytes: [u8; Run::LINE],
     pub len: usize,
     pub line: u32,
     pub state: Numbered,
+}
+
+impl Run {
+    // The room for a line of the file, which no well-formed line passes.
+    pub const LINE: usize = 80;
+
+    // The room for what one byte of a file can make a program write.
+    pub const ROOM: usize = 128;
 }
 
 // What a step leaves, and the place after what it put.
@@ -55,7 +63,7 @@ impl Run {
         ensures { λ r. ⌜ r ≡ overOf self ⌝ }
     {
         self.ended = true;
-        self.bytes = [0; 80];
+        self.bytes = [0; Run::LINE];
         self.len = 0;
         self
     }
@@ -65,7 +73,7 @@ impl Run {
         ensures { λ r. ⌜ r ≡ nextOf self state ⌝ }
     {
         let line = following(self.line);
-        self.bytes = [0; 80];
+        self.bytes = [0; Run::LINE];
         self.len = 0;
         self.line = line;
         self.state = state;

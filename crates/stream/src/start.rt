@@ -30,7 +30,7 @@ impl Run {
         Run {
             ended: false,
             journal,
-            bytes: [0; 80],
+            bytes: [0; Run::LINE],
             len: 0,
             line,
             state,
@@ -44,7 +44,7 @@ pub fn begin(journal: bool, settings: &[u8], out: &mut [u8]) -> Ran
     ensures { λ _. ⌜ now (out .exit) ≡ outBegun journal (now (settings .entry)) (now (out .entry)) ⌝ }
     ensures { λ r. ⌜ Counts (r .len) (now (out .exit)) ⌝ }
 {
-    if out.len() < 128 {
+    if out.len() < Run::ROOM {
         return Ran {
             done: false,
             run: Run::start(journal, 0, Numbered::blank()).over(),

@@ -16,7 +16,7 @@ use Rattle.text.specs.Decimal.{mostDigits, isSize, hasMinus, unsigned, decimalO
 use Rattle.text.specs.Reader.{readText}
 use Rattle.text.proofs.Digits.{sized, no-size}
 use Rattle.stream.specs.declared.run.Run.{Run}
-use Rattle.stream.specs.Run.{Step, Judged, refused, answered, lineMost, refusedLine, overOf, wordOf, following, nextOf, lineStep}
+use Rattle.stream.specs.Run.{Step, Judged, refused, answered, lineMost, refusedLine, overOf, following, nextOf, lineStep}
 use Rattle.stream.specs.Feed.{judgedBy, after, written, plain, grownOf, lineOf, finishing}
 use Rattle.stream.specs.Oven.{byDecimal, sampleLine}
 use Rattle.stream.specs.Start.{firstLoop, startOf, begunBy, runOver, outputOf}

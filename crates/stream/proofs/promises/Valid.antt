@@ -11,9 +11,9 @@ use Rattle.settings.specs.declared.Settings.{Settings}
 use Rattle.settings.specs.Settings.{settingsRefusal}
 use Rattle.pid.specs.declared.record.Made.{Made}
 use Rattle.pid.specs.Record.{madeOf}
-use Rattle.pid.proofs.promises.Demand1.{made-valid}
 use Rattle.delivery.specs.Memory.{lastNumber}
 use Rattle.delivery.specs.Numbered.{validOf}
+use Rattle.delivery.proofs.promises.Delivery.{made-valid, again-valid}
 use Rattle.text.specs.Reader.{readText}
 use borrow.Author.Tests.{eq-eqb}
 use Rattle.text.specs.declared.decimal.Decimal.{Decimal}
@@ -28,7 +28,6 @@ use Rattle.stream.specs.Journal.{deliveryOf, byDelivery, journalLine}
 use Rattle.stream.specs.Feed.{judgedBy, judging, byteOf, after}
 use Rattle.stream.specs.Start.{firstLoop, begunBy, beginning}
 use Rattle.stream.proofs.Starts.{text-right}
-use Rattle.delivery.proofs.Served.{delivered-valid}
 
 abbrev Good : Step → Type 0
 Good s = validOf (s .run .state) ≡ true
@@ -43,11 +42,11 @@ unfolding bySample byAnswer
 sample-leaves l v decimal.Wrong = tt
 sample-leaves l v (decimal.Is pv) =
     chosen Leaves (eqb (l .memory .number) lastNumber) (λ _. tt)
-    (λ _. chosen Leaves (eqb (sampledOf l pv .code) 0) (λ _. delivered-valid l _ (Sample pv) v) (λ _. tt))
+    (λ _. chosen Leaves (eqb (sampledOf l pv .code) 0) (λ _. again-valid l _ (Sample pv) v) (λ _. tt))
 
 journal-leaves : (l : Numbered) → validOf l ≡ true → (w : List ℕ) (d : Delivery) → Leaves (byDelivery l w d)
 journal-leaves l v w Wrong = tt
-journal-leaves l v w (Is n c) = delivered-valid l n c v
+journal-leaves l v w (Is n c) = again-valid l n c v
 
 module _ (r : Run) (v : validOf (r .state) ≡ true) where
   line-good : (j : Judged) → Leaves j → Good (lineStep r j)
@@ -80,4 +79,4 @@ pub begun-valid : (journal : Bool) (s : List ℕ) → readText s .code ≡ 0 →
 unfolding begunBy firstLoop
 begun-valid journal s e =
     let v = made-valid (readText s .settings) (made-right (readText s .settings) (text-right s e)) in
-    rw (eq-eqb (readText s .code) 0 e) (chosen (λ (l : Numbered). validOf l ≡ true) journal (λ _. v) (λ _. delivered-valid _ 1 Automatic v))
+    rw (eq-eqb (readText s .code) 0 e) (chosen (λ (l : Numbered). validOf l ≡ true) journal (λ _. v) (λ _. again-valid _ 1 Automatic v))
