@@ -12,7 +12,7 @@ use lib.ListN.{length}
 use Rattle.whole.proofs.Truth.{both, by-test, cond-yes, cond-no}
 use Rattle.text.proofs.Stores.{text-part}
 use Rattle.stream.specs.declared.run.Run.{Run}
-use Rattle.stream.specs.Run.{Step, Judged, refused, answered, lineMost, refusedLine, overOf, refusing, wordOf, lineStep, keptOf, keeping}
+use Rattle.stream.specs.Run.{Step, Judged, refused, answered, lineMost, refusedLine, overOf, refusing, wordOf, lineStep, withLine, keptOf, keeping}
 use Rattle.stream.specs.Feed.{judgedBy, judging, idle, byteOf, after, written, passing, plain, grownOf, lineOf}
 use Rattle.stream.proofs.promises.Cut.{cut-after, cut-written}
 
@@ -57,9 +57,6 @@ refused-then r code s =
     ∙ then-none (refusing r code)
 
 -- ---- the line under way
-
-abbrev withLine : Run → List ℕ → ℕ → Run
-withLine r bytes len = record { ended = r .ended; journal = r .journal; bytes = bytes; len = len; line = r .line; state = r .state }
 
 grown-none : (r : Run) → r ≡ grownOf r []
 grown-none r = ap (withLine r (r .bytes)) (omega arith)

@@ -9,7 +9,7 @@ use lib.Seq.{sets}
 use Rattle.delivery.specs.declared.numbered.Numbered.{Numbered}
 use Rattle.stream.specs.declared.run.Run.{Run}
 use Rattle.stream.specs.declared.feed.Ran.{Ran}
-use Rattle.stream.specs.Run.{Step, Judged, lineRoom, lineMost, refusing, wordOf, lineStep, keeping}
+use Rattle.stream.specs.Run.{Step, Judged, lineRoom, lineMost, refusing, wordOf, lineStep, withLine, keeping}
 use Rattle.stream.specs.Oven.{sampleLine}
 use Rattle.stream.specs.Journal.{journalLine}
 
@@ -52,14 +52,7 @@ plain (b ∷ w) = not (eqb b 10) && plain w
 
 -- the line under way with more bytes of it
 abbrev pub grownOf : Run → List ℕ → Run
-grownOf r w = record {
-  ended = r .ended;
-  journal = r .journal;
-  bytes = sets (r .bytes) (r .len) w;
-  len = r .len + length w;
-  line = r .line;
-  state = r .state;
-}
+grownOf r w = withLine r (sets (r .bytes) (r .len) w) (r .len + length w)
 
 -- the next bytes of a line, and its line feed where that has come
 unfoldable pub lineOf : Run → List ℕ → Bool → Step

@@ -94,15 +94,19 @@ abbrev pub lineStep : Run → Judged → Step
 lineStep r (refused code) = refusing r code
 lineStep r (answered l text) = record { run = nextOf r l; text = text }
 
-abbrev pub keptOf : Run → ℕ → Run
-keptOf r b = record {
+-- with these bytes of a line, and so many of them
+abbrev pub withLine : Run → List ℕ → ℕ → Run
+withLine r bytes len = record {
   ended = r .ended;
   journal = r .journal;
-  bytes = set (r .bytes) (r .len) b;
-  len = r .len + 1;
+  bytes = bytes;
+  len = len;
   line = r .line;
   state = r .state;
 }
+
+abbrev pub keptOf : Run → ℕ → Run
+keptOf r b = withLine r (set (r .bytes) (r .len) b) (r .len + 1)
 
 -- a byte of the line under way; one past the room makes a line longer than any well-formed one: "malformed [..] is 14"
 unfoldable pub keeping : Run → ℕ → Step
