@@ -2,7 +2,7 @@
 
 mod common;
 
-use common::{for_each_seed, same, Program};
+use common::{across_a_cut, for_each_seed, odd_lines, same, Program};
 use host::delivery::Delivery;
 use host::law::Command;
 use host::{example, gen, journal, text};
@@ -80,6 +80,34 @@ fn spoiled_deliveries_are_answered_alike() {
     for line in gen::MALFORMED_DELIVERIES {
         journal_agrees(&program, example::C.as_bytes(), line);
     }
+}
+
+#[test]
+fn a_line_across_a_cut_is_answered_alike() {
+    let program = Program::new("journal");
+    let mut lines = odd_lines();
+    lines.extend(
+        [
+            "number=1 command=automatic value=0 second=0\n",
+            "number=4294967295 command=target value=-2147483648 second=-2147483648\n",
+            "number=1 command=hold value=0 second=0",
+        ]
+        .map(|line| line.as_bytes().to_vec()),
+    );
+    // the number 0 is old, whatever the command: each is refused, and the run goes on
+    let filler = |count: usize| {
+        let puts = count / 42;
+        let digits = |i: usize| if i < count - puts * 42 { "123456" } else { "12345" };
+        (0..puts)
+            .map(|i| format!("number=0 command=put value={} second=0\n", digits(i)))
+            .collect::<String>()
+            .into_bytes()
+    };
+    let after =
+        b"number=1 command=hold value=0 second=0\nnumber=2 command=sample value=480 second=0\n";
+    across_a_cut(&lines, filler, after, |file| {
+        journal_agrees(&program, example::C.as_bytes(), file);
+    });
 }
 
 #[test]

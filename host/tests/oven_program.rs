@@ -2,7 +2,7 @@
 
 mod common;
 
-use common::{for_each_seed, same, Program};
+use common::{across_a_cut, for_each_seed, odd_lines, same, Program};
 use host::rng::Rng;
 use host::{example, gen, oven, text};
 
@@ -61,6 +61,20 @@ fn sample_files_are_answered_alike() {
             gen::sample_file(&samples)
         };
         oven_agrees(&program, text::lines_of(&settings).as_bytes(), &file);
+    });
+}
+
+#[test]
+fn a_line_across_a_cut_is_answered_alike() {
+    let program = Program::new("oven");
+    let mut lines = odd_lines();
+    lines.extend(["-123456\n", "1000001\n", "x\n", "480"].map(|line| line.as_bytes().to_vec()));
+    let filler = |count: usize| {
+        let first = ["", "1\n10\n", "1\n", "10\n"][count % 4];
+        format!("{first}{}", "480\n".repeat((count - first.len()) / 4)).into_bytes()
+    };
+    across_a_cut(&lines, filler, b"481\n479\n", |file| {
+        oven_agrees(&program, example::C.as_bytes(), file);
     });
 }
 

@@ -20,10 +20,9 @@ fn failed(run: Run, what: &[u8]) -> Left {
     }
 }
 
-// Reads one piece and writes what it leads to. `stream` asks 128 bytes of the buffer for each byte of the piece, so these
-// two sizes always do.
-fn turn(fd: i32, run: Run, path: &[u8]) -> Left {
-    let mut piece = [0u8; 512];
+// Reads one piece and writes what it leads to.
+fn turn(fd: i32, run: Run, path: &[u8], out: &mut [u8]) -> Left {
+    let mut piece = io::buffer();
     let got = libc::read(fd, &mut piece);
     if got < 0 {
         return failed(run, path);
@@ -36,8 +35,7 @@ fn turn(fd: i32, run: Run, path: &[u8]) -> Left {
         };
     }
     let n = io::count(got, &piece);
-    let mut out = io::large_buffer();
-    let ran = run.feed(&piece[..n], &mut out);
+    let ran = run.feed(&piece[..n], out);
     let len = ran.len;
     let next = ran.run;
     if io::write_all(STDOUT_FILENO, &out[..len]) {
@@ -51,8 +49,9 @@ fn turn(fd: i32, run: Run, path: &[u8]) -> Left {
 }
 
 // A proved loop has to end, and nothing says that a file does, so it counts its turns down from a number that no file
-// outlives.
+// outlives. The output has room for what a piece of 4,096 bytes can lead to, and is made once.
 fn turns(fd: i32, run: Run, path: &[u8]) -> Left {
+    let mut out = [0u8; 4_096 * Run::ROOM];
     let mut left = u64::MAX;
     let mut now = Left {
         more: true,
@@ -61,7 +60,7 @@ fn turns(fd: i32, run: Run, path: &[u8]) -> Left {
     };
     while left > 0 && now.more {
         left -= 1;
-        now = turn(fd, now.run, path);
+        now = turn(fd, now.run, path, &mut out);
     }
     now
 }

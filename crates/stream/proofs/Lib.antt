@@ -1,6 +1,7 @@
 mod Puts
 mod Steps
+mod Line
+mod Feeds
 mod Pieces
 mod Starts
-mod Numbers
 pub mod promises

@@ -1,52 +1,48 @@
--- A piece of a file that is fed byte by byte: what is still to be done at place i is what is left of the piece.
-use Prim.Native.Nat.{ℕ, _+_, _*_, _<_, _≤_}
+-- A piece of a file that is fed part by part: what is still to be done is what the rest of it leads to.
+use Prim.Native.Nat.{ℕ, _+_, _*_, _≤_}
 use mathlib.Core.Path.{_≡_, refl, sym, ap, ap₂, _∙_}
 use mathlib.Core.List.{List, [], _++_}
 use mathlib.Core.Bool.{Bool, true, false}
 use native.Mathlib.Omega.{arith}
-use lib.ListN.{length, drop, getD, length-append, drop-of-length-le}
+use lib.ListN.{length, drop, length-append}
 use lib.Seq.{sets, length-take-le}
-use Rattle.text.proofs.Lists.{next}
 use Rattle.text.proofs.Stores.{sets-append, front-stored}
 use Rattle.stream.specs.declared.run.Run.{Run}
 use Rattle.stream.specs.declared.run.Told.{Told}
 use Rattle.stream.specs.Run.{Step, lineRoom, Tells}
-use Rattle.stream.specs.Feed.{byteOf, after, written, passing, Counts, ranOf, outOf}
+use Rattle.stream.specs.Feed.{after, written, passing, Counts, ranOf, outOf}
+use Rattle.stream.proofs.promises.Cut.{cut-after, cut-written}
 
-pub record Passed (r₀ : Run) (piece l₀ : List ℕ) (r : Run) (at i : ℕ) (l : List ℕ) : Type 0 where
-  pub run : after r₀ piece ≡ after r (drop i piece)
-  pub place : length (written r₀ piece) ≡ at + length (written r (drop i piece))
-  pub holds : sets l₀ 0 (written r₀ piece) ≡ sets l at (written r (drop i piece))
+pub record Passed (r₀ : Run) (piece l₀ : List ℕ) (r : Run) (at : ℕ) (rest l : List ℕ) : Type 0 where
+  pub run : after r₀ piece ≡ after r rest
+  pub place : length (written r₀ piece) ≡ at + length (written r rest)
+  pub holds : sets l₀ 0 (written r₀ piece) ≡ sets l at (written r rest)
 
-pub passed-none : {r : Run} {piece l : List ℕ} → Passed r piece l r 0 0 l
+pub passed-none : {r : Run} {piece l : List ℕ} → Passed r piece l r 0 piece l
 passed-none = record { run = refl; place = omega arith; holds = refl }
 
--- one byte more
-pub passed-more : {r₀ r : Run} {piece l₀ l l′ : List ℕ} {at i room : ℕ} {t : Told} → i < length piece → Passed r₀ piece l₀ r at i l →
-    Tells room (byteOf r (getD piece i 0)) at l t l′ → Passed r₀ piece l₀ (t .run) (t .at) (i + 1) l′
-passed-more {r₀} {r} {piece} {l₀} {l} {l′} {at} {i} {room} {t} h p e =
-    let s = byteOf r (getD piece i 0) in
-    let left = drop (i + 1) piece in
-    let n = next piece i 0 h in
-    let q : written r (drop i piece) ≡ s .text ++ written (s .run) left = ap (written r) n in
+-- one part more
+pub passed-more : {r₀ r : Run} {piece rest l₀ l l′ : List ℕ} {at room : ℕ} {s : Step} {t : Told} (w left : List ℕ) → rest ≡ w ++ left → passing r w ≡ s →
+    Passed r₀ piece l₀ r at rest l → Tells room s at l t l′ → Passed r₀ piece l₀ (t .run) (t .at) left l′
+passed-more {r₀} {r} {piece} {rest} {l₀} {l} {l′} {at} {room} {s} {t} w left n f p e =
+    let a : after r rest ≡ after (s .run) left = ap (after r) n ∙ cut-after r w left ∙ ap (λ (x : Step). after (x .run) left) f in
+    let q : written r rest ≡ s .text ++ written (s .run) left =
+    ap (written r) n ∙ cut-written r w left ∙ ap (λ (x : Step). x .text ++ written (x .run) left) f in
     rw (e .is)
     (record {
-      run = p .run ∙ ap (after r) n;
+      run = p .run ∙ a;
       place = p .place ∙ omega (arith, ap length q ∙ length-append (s .text) (written (s .run) left));
       holds = p .holds ∙ ap (sets l at) q ∙ sets-append l at (s .text) (written (s .run) left) ∙ ap (λ (x : List ℕ). sets x (at + length (s .text)) (written (s .run) left)) (sym (e .holds));
     })
 
 -- the whole piece
-pub passed-all : {r₀ r : Run} {piece l₀ l : List ℕ} {at i : ℕ} → length piece ≤ i → i ≤ length piece → at ≤ i * lineRoom → Passed r₀ piece l₀ r at i l →
+pub passed-all : {r₀ r : Run} {piece l₀ l : List ℕ} {at : ℕ} → at ≤ length piece * lineRoom → Passed r₀ piece l₀ r at [] l →
     Tells (length piece * lineRoom) (passing r₀ piece) 0 l₀ (record { run = r; at = at }) l
-passed-all {r₀} {r} {piece} {l₀} {l} {at} {i} h k f p =
-    let d = drop-of-length-le piece h in
-    let e : written r (drop i piece) ≡ [] = ap (written r) d in
-    record {
-      is = ap₂ (λ (u : Run) (n : ℕ). record { run = u; at = n }) (sym (p .run ∙ ap (after r) d)) (omega (arith, p .place, ap length e));
-      holds = sym (p .holds ∙ ap (sets l at) e);
-      few = omega arith;
-    }
+passed-all {r₀} {r} {piece} {l₀} {l} {at} f p = record {
+  is = ap₂ (λ (u : Run) (n : ℕ). record { run = u; at = n }) (sym (p .run)) (omega (arith, p .place));
+  holds = sym (p .holds);
+  few = omega arith;
+}
 
 -- ---- the public functions: with room for what is written, and without
 

@@ -7,8 +7,10 @@ use lib.Dec.{eqb, ltb}
 use lib.IntN.{ℤ}
 use lib.ListN.{length}
 use Rattle.whole.proofs.Truth.{chosen}
-use Rattle.pid.specs.declared.settings.Row.{Row}
-use Rattle.pid.specs.Settings.{rows, settingsOf, ordered, settingsRefusal}
+use Rattle.settings.specs.declared.table.Row.{Row}
+use Rattle.settings.specs.Table.{lines, rows}
+use Rattle.settings.specs.Settings.{settingsOf, ordered, settingsRefusal}
+use Rattle.settings.proofs.Rows.{rows-long}
 use Rattle.text.specs.declared.reader.Reading.{Reading}
 use Rattle.text.specs.Reader.{afterLine, lineCode, lineValue, readEnd, readFrom, readText}
 use Rattle.text.proofs.Trip.{text-back}
@@ -21,9 +23,9 @@ line-from [] n vs s =
 line-from (r ∷ rs) n vs s =
     chosen (λ (d : Reading). d .line ≤ n + length (r ∷ rs)) (eqb (lineCode r s) 0) (λ _. omega (arith, line-from rs (n + 1) (vs ++ (lineValue r s ∷ [])) (afterLine s))) (λ _. omega arith)
 
-pub line-few : (s : List ℕ) → readText s .line ≤ 27
-unfolding readText rows
-line-few s = line-from rows 1 [] s
+pub line-few : (s : List ℕ) → readText s .line ≤ lines + 1
+unfolding readText
+line-few s = omega (arith, line-from rows 1 [] s, rows-long)
 
 pub text-right : (s : List ℕ) → readText s .code ≡ 0 → settingsRefusal (readText s .settings) ≡ 0
 text-right s e = text-back s e .right

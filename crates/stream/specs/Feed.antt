@@ -1,21 +1,22 @@
 -- A file, byte by byte and in pieces: what is left of the run, and every byte that is written.
-use Prim.Native.Nat.{ℕ, _/_, _≤_}
+use Prim.Native.Nat.{ℕ, _+_, _/_, _≤_}
 use mathlib.Core.Path.{_≡_}
-use mathlib.Core.Bool.{Bool, true, false, cond, _||_}
+use mathlib.Core.Bool.{Bool, true, false, cond, not, _&&_, _||_}
 use mathlib.Core.List.{List, [], _∷_, _++_}
 use lib.Dec.{eqb, ltb, leb}
 use lib.ListN.{length, take, drop}
-use Rattle.pid.specs.declared.record.Loop.{Loop}
+use lib.Seq.{sets}
+use Rattle.delivery.specs.declared.numbered.Numbered.{Numbered}
 use Rattle.stream.specs.declared.run.Run.{Run}
 use Rattle.stream.specs.declared.feed.Ran.{Ran}
-use Rattle.stream.specs.Run.{Step, Judged, lineRoom, lineMost, refusing, wordOf, lineStep, keeping}
+use Rattle.stream.specs.Run.{Step, Judged, lineRoom, lineMost, refusing, wordOf, lineStep, withLine, keeping}
 use Rattle.stream.specs.Oven.{sampleLine}
 use Rattle.stream.specs.Journal.{journalLine}
 
 -- ---- one byte
 
 -- a line is a delivery for the journal, else a sample
-abbrev pub judgedBy : Bool → Loop → List ℕ → Judged
+abbrev pub judgedBy : Bool → Numbered → List ℕ → Judged
 judgedBy journal l w = cond journal (journalLine l w) (sampleLine l w)
 
 -- a line feed (byte 10) ends the line under way
@@ -42,7 +43,27 @@ written r (b ∷ s) = byteOf r b .text ++ written (byteOf r b .run) s
 abbrev pub passing : Run → List ℕ → Step
 passing r s = record { run = after r s; text = written r s }
 
--- the end of the file: "a last one without its line feed, is 14"
+-- ---- a line at once: what its bytes do one by one
+
+-- no line feed among these bytes
+abbrev pub plain : List ℕ → Bool
+plain [] = true
+plain (b ∷ w) = not (eqb b 10) && plain w
+
+-- the line under way with more bytes of it
+abbrev pub grownOf : Run → List ℕ → Run
+grownOf r w = withLine r (sets (r .bytes) (r .len) w) (r .len + length w)
+
+-- the next bytes of a line, and its line feed where that has come
+unfoldable pub lineOf : Run → List ℕ → Bool → Step
+lineOf r w fed =
+    cond (r .ended) (idle r)
+    (cond (ltb lineMost (r .len + length w)) (refusing r 14)
+    (cond fed (lineStep r (judgedBy (r .journal) (r .state) (wordOf (grownOf r w)))) (idle (grownOf r w))))
+
+-- ---- the end of the file
+
+-- "a last one without its line feed, is 14"
 unfoldable pub finishing : Run → Step
 finishing r = cond (r .ended || eqb (r .len) 0) (idle r) (refusing r 14)
 

@@ -1,6 +1,5 @@
 pub mod Run
 pub mod Oven
-pub mod Number
 pub mod Journal
 pub mod Feed
 pub mod Start

@@ -1,39 +1,41 @@
 -- 01, "What is built": the program that writes the outputs of samples. What becomes of one line of the file.
 use Prim.Native.Nat.{ℕ, _+_}
 use mathlib.Core.Bool.{cond}
-use mathlib.Core.List.{List, [], _∷_, _++_}
+use mathlib.Core.List.{List, _++_}
 use lib.Dec.{eqb}
 use lib.IntN.{ℤ}
-use Rattle.pid.specs.declared.record.Command.the-variants.{Sample}
-use Rattle.pid.specs.declared.record.Loop.{Loop}
-use Rattle.pid.specs.declared.delivery.Delivered.{Delivered}
-use Rattle.pid.specs.Delivery.{deliveredOf}
+use Rattle.pid.specs.declared.command.Command.the-variants.{Sample}
+use Rattle.delivery.specs.declared.numbered.Numbered.{Numbered}
+use Rattle.delivery.specs.declared.numbered.Delivered.{Delivered}
+use Rattle.delivery.specs.Memory.{lastNumber}
+use Rattle.delivery.specs.Numbered.{deliveredOf}
 use Rattle.text.specs.declared.decimal.Decimal.{Decimal}
 use Rattle.text.specs.declared.decimal.Decimal.the-variants.{Is, Wrong}
 use Rattle.text.specs.Decimal.{decimal, decimalOf}
-use Rattle.stream.specs.Run.{Judged, refused, answered, lastNumber}
+use Rattle.settings.specs.Words.{bytes}
+use Rattle.stream.specs.Run.{Judged, refused, answered}
 
 -- "delivers [..] the samples from number 2 on": each under the number after the last
-abbrev pub sampledOf : Loop → ℤ → Delivered
-sampledOf l pv = deliveredOf l (l .number + 1) (Sample pv)
+abbrev pub sampledOf : Numbered → ℤ → Delivered
+sampledOf l pv = deliveredOf l (l .memory .number + 1) (Sample pv)
 
 -- "writes each output as a decimal and a line feed"
 abbrev pub outputLine : ℤ → List ℕ
-outputLine output = decimal output ++ (10 ∷ [])
+outputLine output = decimal output ++ bytes "\n"
 
 -- an accepted sample is answered, a refused one ends the run
 unfoldable pub byAnswer : Delivered → Judged
 byAnswer d = cond (eqb (d .code) 0) (answered (d .state) (outputLine (d .output))) (refused (d .code))
 
 -- "else a sample past the last number is 13, and one out of range 4"
-unfoldable pub bySample : Loop → ℤ → Judged
-bySample l pv = cond (eqb (l .number) lastNumber) (refused 13) (byAnswer (sampledOf l pv))
+unfoldable pub bySample : Numbered → ℤ → Judged
+bySample l pv = cond (eqb (l .memory .number) lastNumber) (refused 13) (byAnswer (sampledOf l pv))
 
 -- "A malformed sample line [..] is 14"
-abbrev pub byDecimal : Loop → Decimal → Judged
+abbrev pub byDecimal : Numbered → Decimal → Judged
 byDecimal l (Is pv) = bySample l pv
 byDecimal l Wrong = refused 14
 
 -- "The sample file has the settings' decimal form"
-unfoldable pub sampleLine : Loop → List ℕ → Judged
+unfoldable pub sampleLine : Numbered → List ℕ → Judged
 sampleLine l w = byDecimal l (decimalOf w)

@@ -2,12 +2,14 @@
 use Prim.Native.Nat.{ℕ, _+_, _≤_}
 use mathlib.Core.Path.{_≡_}
 use mathlib.Core.Bool.{true, cond}
-use mathlib.Core.List.{List, [], _∷_, _++_}
+use mathlib.Core.List.{List, [], _++_}
 use lib.Dec.{ltb}
-use lib.ListN.{length, take, set}
+use lib.ListN.{length, take, set, replicate}
 use lib.Seq.{sets}
-use Rattle.pid.specs.declared.record.Loop.{Loop}
+use Rattle.delivery.specs.declared.numbered.Numbered.{Numbered}
 use Rattle.text.specs.Decimal.{shown}
+use Rattle.text.specs.Number.{highest}
+use Rattle.settings.specs.Words.{bytes}
 use Rattle.stream.specs.declared.run.Run.{Run}
 use Rattle.stream.specs.declared.run.Told.{Told}
 
@@ -34,26 +36,26 @@ pub record Tells (room : ℕ) (s : Step) (at : ℕ) (before : List ℕ) (r : Tol
 abbrev pub lineMost : ℕ
 lineMost = 80
 
--- the largest number of 32 bits, 4,294,967,295
-abbrev pub lastNumber : ℕ
-lastNumber = 4294967295
-
 -- ---- a refusal
 
--- the bytes of `refused ` with its space
 abbrev pub refusedWord : List ℕ
-refusedWord = 114 ∷ 101 ∷ 102 ∷ 117 ∷ 115 ∷ 101 ∷ 100 ∷ 32 ∷ []
+refusedWord = bytes "refused "
 
 -- "it writes `refused`, the code and the line, one space between, and a line feed"
 unfoldable pub refusedLine : ℕ → ℕ → List ℕ
-refusedLine code line = refusedWord ++ (shown code ++ ((32 ∷ []) ++ (shown line ++ (10 ∷ []))))
+refusedLine code line = refusedWord ++ (shown code ++ (bytes " " ++ (shown line ++ bytes "\n")))
 
+-- the room for a line of which nothing has come yet
+abbrev pub noBytes : List ℕ
+noBytes = replicate lineMost 0
+
+-- ended, with no line under way
 abbrev pub overOf : Run → Run
 overOf r = record {
   ended = true;
   journal = r .journal;
-  bytes = r .bytes;
-  len = r .len;
+  bytes = noBytes;
+  len = 0;
   line = r .line;
   state = r .state;
 }
@@ -70,14 +72,14 @@ wordOf r = take (r .len) (r .bytes)
 
 -- the line after a line. One past 4,294,967,295 keeps that number
 abbrev pub following : ℕ → ℕ
-following line = cond (ltb line lastNumber) (line + 1) line
+following line = cond (ltb line highest) (line + 1) line
 
 -- the next line begins, with the loop as this line left it
-abbrev pub nextOf : Run → Loop → Run
+abbrev pub nextOf : Run → Numbered → Run
 nextOf r l = record {
   ended = r .ended;
   journal = r .journal;
-  bytes = r .bytes;
+  bytes = noBytes;
   len = 0;
   line = following (r .line);
   state = l;
@@ -86,21 +88,25 @@ nextOf r l = record {
 -- what a program makes of a whole line: a refusal with its code, or the loop that it leaves and the text that answers it
 pub data Judged : Type 0 where
   refused : ℕ → Judged
-  answered : Loop → List ℕ → Judged
+  answered : Numbered → List ℕ → Judged
 
 abbrev pub lineStep : Run → Judged → Step
 lineStep r (refused code) = refusing r code
 lineStep r (answered l text) = record { run = nextOf r l; text = text }
 
-abbrev pub keptOf : Run → ℕ → Run
-keptOf r b = record {
+-- with these bytes of a line, and so many of them
+abbrev pub withLine : Run → List ℕ → ℕ → Run
+withLine r bytes len = record {
   ended = r .ended;
   journal = r .journal;
-  bytes = set (r .bytes) (r .len) b;
-  len = r .len + 1;
+  bytes = bytes;
+  len = len;
   line = r .line;
   state = r .state;
 }
+
+abbrev pub keptOf : Run → ℕ → Run
+keptOf r b = withLine r (set (r .bytes) (r .len) b) (r .len + 1)
 
 -- a byte of the line under way; one past the room makes a line longer than any well-formed one: "malformed [..] is 14"
 unfoldable pub keeping : Run → ℕ → Step

@@ -1,11 +1,14 @@
-// A file, byte by byte and in pieces.
+// A file in pieces, line by line.
 ghost use mathlib.Core.Path.{_≡_};
 ghost use Prim.Native.Nat.{_+_, _*_, _≤_};
+ghost use lib.Dec.{ltb};
 ghost use lib.ListN.{length};
-ghost use Rattle.stream.specs.Run.{lineRoom, Tells};
-ghost use Rattle.stream.specs.Feed.{judging, byteOf, passing, fedOf, outFed, finishedOf, outFinished, Counts};
+ghost use Rattle.stream.specs.Run.{lineRoom, lineMost, wordOf, lineStep, Tells};
+ghost use Rattle.stream.specs.Feed.{judgedBy, grownOf, lineOf, passing, fedOf, outFed, finishedOf, outFinished, Counts};
 use crate::run::Run;
 use crate::run::Told;
+use text::buffer::put;
+use text::reader::end_at;
 
 // What comes back: whether the lent buffer had room, the run, and how many bytes from the buffer's first on are to be
 // written. Without room nothing was done.
@@ -15,32 +18,76 @@ pub struct Ran {
     pub len: usize,
 }
 
+// Whether a line of len bytes is longer than any well-formed one with this part of it too.
+fn too_long(len: usize, part: &[u8]) -> bool
+    ensures { λ r. ⌜ r ≡ ltb lineMost (len + length (now (part .entry))) ⌝ }
+{
+    if Run::LINE < len {
+        return true;
+    }
+    Run::LINE - len < part.len()
+}
+
 impl Run {
-    // A line feed: the line under way is judged.
-    fn judge(self, out: &mut [u8], at: usize) -> Told
+    // What the program makes of a whole line.
+    fn judge(self, line: &[u8], out: &mut [u8], at: usize) -> Told
+        requires { ⌜ length (now line) ≤ lineMost ⌝ }
         requires { ⌜ at + lineRoom ≤ length (now out) ⌝ }
-        ensures { λ r. ⌜ Tells lineRoom (judging self) at (now (out .entry)) r (now (out .exit)) ⌝ }
+        ensures { λ r. ⌜ Tells lineRoom (lineStep self (judgedBy (self .journal) (self .state) (now (line .entry)))) at (now (out .entry)) r (now (out .exit)) ⌝ }
     {
-        if 80 < self.len {
-            return self.refuse(14, out, at);
-        }
         if self.journal {
-            return self.journal_line(out, at);
+            return self.journal_line(line, out, at);
         }
-        self.sample_line(out, at)
+        self.sample_line(line, out, at)
     }
 
-    fn byte(self, b: u8, out: &mut [u8], at: usize) -> Told
+    // The line under way with more bytes of it.
+    fn grown(mut self, part: &[u8]) -> Run
+        requires { ⌜ self .len + length (now part) ≤ lineMost ⌝ }
+        ensures { λ r. ⌜ r ≡ grownOf self (now (part .entry)) ⌝ }
+    {
+        let len = self.len;
+        let mut bytes = self.bytes;
+        put(&mut bytes, len, part);
+        self.bytes = bytes;
+        self.len = len + part.len();
+        self
+    }
+
+    // A line whose last bytes these are. One that lies whole in the piece is judged where it stands; one that began in an
+    // earlier piece is joined with what was carried of it.
+    fn line(self, part: &[u8], out: &mut [u8], at: usize) -> Told
+        requires { ⌜ self .len + length (now part) ≤ lineMost ⌝ }
         requires { ⌜ at + lineRoom ≤ length (now out) ⌝ }
-        ensures { λ r. ⌜ Tells lineRoom (byteOf self b) at (now (out .entry)) r (now (out .exit)) ⌝ }
+        ensures { λ r. ⌜ Tells lineRoom (lineStep self (judgedBy (self .journal) (self .state) (wordOf (grownOf self (now (part .entry)))))) at (now (out .entry)) r (now (out .exit)) ⌝ }
+    {
+        if self.len == 0 {
+            return self.judge(part, out, at);
+        }
+        let joined = self.grown(part);
+        let bytes = joined.bytes;
+        let len = joined.len;
+        self.judge(&bytes[..len], out, at)
+    }
+
+    // The next bytes of a line, up to its line feed where that has come.
+    fn take(self, part: &[u8], fed: bool, out: &mut [u8], at: usize) -> Told
+        requires { ⌜ at + lineRoom ≤ length (now out) ⌝ }
+        ensures { λ r. ⌜ Tells lineRoom (lineOf self (now (part .entry)) fed) at (now (out .entry)) r (now (out .exit)) ⌝ }
     {
         if self.ended {
             return Told { run: self, at };
         }
-        if b == 10 {
-            return self.judge(out, at);
+        if too_long(self.len, part) {
+            return self.refuse(14, out, at);
         }
-        self.keep(b, out, at)
+        if fed {
+            return self.line(part, out, at);
+        }
+        Told {
+            run: self.grown(part),
+            at,
+        }
     }
 
     fn pass(self, piece: &[u8], out: &mut [u8]) -> Told
@@ -49,12 +96,16 @@ impl Run {
     {
         let mut run = self;
         let mut at: usize = 0;
-        let mut i: usize = 0;
-        while i < piece.len() {
-            let told = run.byte(piece[i], out, at);
+        let mut rest = piece;
+        while 0 < rest.len() {
+            let end = end_at(rest, b'\n');
+            let told = run.take(&rest[..end], end < rest.len(), out, at);
+            if end == rest.len() {
+                return told;
+            }
             run = told.run;
             at = told.at;
-            i += 1;
+            rest = &rest[end + 1..];
         }
         Told { run, at }
     }
@@ -65,7 +116,7 @@ impl Run {
         ensures { λ _. ⌜ now (out .exit) ≡ outFed self (now (piece .entry)) (now (out .entry)) ⌝ }
         ensures { λ r. ⌜ Counts (r .len) (now (out .exit)) ⌝ }
     {
-        if out.len() / 128 < piece.len() {
+        if out.len() / Run::ROOM < piece.len() {
             return Ran {
                 done: false,
                 run: self,
@@ -87,7 +138,7 @@ impl Run {
         ensures { λ _. ⌜ now (out .exit) ≡ outFinished self (now (out .entry)) ⌝ }
         ensures { λ r. ⌜ Counts (r .len) (now (out .exit)) ⌝ }
     {
-        if out.len() < 128 {
+        if out.len() < Run::ROOM {
             return Ran {
                 done: false,
                 run: self,

@@ -3,19 +3,20 @@ ghost use mathlib.Core.Path.{_≡_};
 ghost use Prim.Native.Nat.{_+_, _≤_};
 ghost use lib.ListN.{length};
 ghost use lib.Seq.{sets};
-ghost use Rattle.stream.specs.Run.{lineRoom, wordOf, lineStep, Tells};
-ghost use Rattle.stream.specs.Journal.{spaceEnd, wordIn, restIn, fieldIn, sameWord, commandOf, asking, deliveryOf, answerText, journalAnswer, journalLine};
-use crate::number::Number;
-use crate::number::signed;
+ghost use Rattle.stream.specs.Run.{lineRoom, lineMost, lineStep, Tells};
+ghost use Rattle.stream.specs.Journal.{wordIn, restIn, fieldIn, sameWord, commandOf, asking, deliveryOf, answerText, journalAnswer, journalLine};
 use crate::run::Run;
 use crate::run::Told;
-use pid::delivery::Delivered;
-use pid::record::Command;
+use delivery::numbered::Delivered;
+use pid::command::Command;
 use text::buffer::put;
 use text::buffer::put_signed;
 use text::buffer::put_unsigned;
 use text::decimal::Decimal;
+use text::number::Number;
+use text::number::signed;
 use text::reader::begins;
+use text::reader::end_at;
 
 // What a line asks: a command under a number, or it is of wrong form.
 enum Delivery {
@@ -29,25 +30,11 @@ enum Asked {
     Wrong,
 }
 
-// The place of the first space, or the length where there is none.
-fn space_end(rest: &[u8]) -> usize
-    ensures { λ r. ⌜ r ≡ spaceEnd (now (rest .entry)) ⌝ }
-{
-    let mut i: usize = 0;
-    while i < rest.len() {
-        if rest[i] == 32 {
-            return i;
-        }
-        i += 1;
-    }
-    i
-}
-
 // What stands before the first space.
 fn word_in(rest: &[u8]) -> &[u8]
     ensures { λ r. ⌜ now r ≡ wordIn (now (rest .entry)) ⌝ }
 {
-    let end = space_end(rest);
+    let end = end_at(rest, b' ');
     &rest[..end]
 }
 
@@ -55,7 +42,7 @@ fn word_in(rest: &[u8]) -> &[u8]
 fn rest_in(rest: &[u8]) -> &[u8]
     ensures { λ r. ⌜ now r ≡ restIn (now (rest .entry)) ⌝ }
 {
-    let end = space_end(rest);
+    let end = end_at(rest, b' ');
     if end < rest.len() {
         return &rest[end + 1..];
     }
@@ -161,15 +148,13 @@ fn put_answer(out: &mut [u8], at: usize, code: u8, output: i32, last: u32) -> us
 
 impl Run {
     // The line itself, grown by the answer.
-    fn reply(self, told: Delivered, out: &mut [u8], at: usize) -> Told
-        requires { ⌜ self .len ≤ 80 ⌝ }
+    fn reply(self, line: &[u8], told: Delivered, out: &mut [u8], at: usize) -> Told
+        requires { ⌜ length (now line) ≤ lineMost ⌝ }
         requires { ⌜ at + lineRoom ≤ length (now out) ⌝ }
-        ensures { λ r. ⌜ Tells lineRoom (lineStep self (journalAnswer (wordOf self) told)) at (now (out .entry)) r (now (out .exit)) ⌝ }
+        ensures { λ r. ⌜ Tells lineRoom (lineStep self (journalAnswer (now (line .entry)) told)) at (now (out .entry)) r (now (out .exit)) ⌝ }
     {
-        let bytes = self.bytes;
-        let len = self.len;
-        put(out, at, &bytes[..len]);
-        let end = put_answer(out, at + len, told.code, told.output, told.number);
+        put(out, at, line);
+        let end = put_answer(out, at + line.len(), told.code, told.output, told.number);
         let state = told.state;
         Told {
             run: self.next(state),
@@ -177,19 +162,17 @@ impl Run {
         }
     }
 
-    // The line under way, once its line feed has come.
-    pub(crate) fn journal_line(self, out: &mut [u8], at: usize) -> Told
-        requires { ⌜ self .len ≤ 80 ⌝ }
+    // A whole line, its line feed left out.
+    pub(crate) fn journal_line(self, line: &[u8], out: &mut [u8], at: usize) -> Told
+        requires { ⌜ length (now line) ≤ lineMost ⌝ }
         requires { ⌜ at + lineRoom ≤ length (now out) ⌝ }
-        ensures { λ r. ⌜ Tells lineRoom (lineStep self (journalLine (self .state) (wordOf self))) at (now (out .entry)) r (now (out .exit)) ⌝ }
+        ensures { λ r. ⌜ Tells lineRoom (lineStep self (journalLine (self .state) (now (line .entry)))) at (now (out .entry)) r (now (out .exit)) ⌝ }
     {
-        let bytes = self.bytes;
-        let len = self.len;
-        let asked = parse(&bytes[..len]);
+        let asked = parse(line);
         let state = self.state;
         match asked {
             Delivery::Wrong => self.refuse(14, out, at),
-            Delivery::Is(n, c) => self.reply(state.deliver(n, c), out, at),
+            Delivery::Is(n, c) => self.reply(line, state.deliver(n, c), out, at),
         }
     }
 }

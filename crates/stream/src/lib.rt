@@ -2,7 +2,6 @@
 // buffer. Each module has its definitions in specs/ under the same name.
 pub mod feed;
 mod journal;
-mod number;
 mod oven;
 pub mod run;
 pub mod start;

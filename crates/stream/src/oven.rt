@@ -1,19 +1,19 @@
 // 01's program: each line of the file is a sample.
 ghost use Prim.Native.Nat.{_+_, _≤_};
 ghost use lib.ListN.{length};
-ghost use Rattle.stream.specs.Run.{answered, lineRoom, wordOf, lineStep, Tells};
+ghost use Rattle.stream.specs.Run.{answered, lineRoom, lineStep, Tells};
 ghost use Rattle.stream.specs.Oven.{outputLine, bySample, sampleLine};
 use crate::run::Run;
 use crate::run::Told;
-use pid::record::Command;
-use pid::record::Loop;
+use delivery::numbered::Numbered;
+use pid::command::Command;
 use text::buffer::put;
 use text::buffer::put_signed;
 use text::decimal::Decimal;
 
 impl Run {
     // "writes each output as a decimal and a line feed"
-    fn answer(self, state: Loop, output: i32, out: &mut [u8], at: usize) -> Told
+    fn answer(self, state: Numbered, output: i32, out: &mut [u8], at: usize) -> Told
         requires { ⌜ at + lineRoom ≤ length (now out) ⌝ }
         ensures { λ r. ⌜ Tells lineRoom (lineStep self (answered state (outputLine output))) at (now (out .entry)) r (now (out .exit)) ⌝ }
     {
@@ -30,7 +30,7 @@ impl Run {
         ensures { λ r. ⌜ Tells lineRoom (lineStep self (bySample (self .state) pv)) at (now (out .entry)) r (now (out .exit)) ⌝ }
     {
         let state = self.state;
-        let last = state.number;
+        let last = state.memory.number;
         if last == u32::MAX {
             return self.refuse(13, out, at);
         }
@@ -43,15 +43,12 @@ impl Run {
         self.refuse(code, out, at)
     }
 
-    // The line under way, once its line feed has come.
-    pub(crate) fn sample_line(self, out: &mut [u8], at: usize) -> Told
-        requires { ⌜ self .len ≤ 80 ⌝ }
+    // A whole line, its line feed left out.
+    pub(crate) fn sample_line(self, line: &[u8], out: &mut [u8], at: usize) -> Told
         requires { ⌜ at + lineRoom ≤ length (now out) ⌝ }
-        ensures { λ r. ⌜ Tells lineRoom (lineStep self (sampleLine (self .state) (wordOf self))) at (now (out .entry)) r (now (out .exit)) ⌝ }
+        ensures { λ r. ⌜ Tells lineRoom (lineStep self (sampleLine (self .state) (now (line .entry)))) at (now (out .entry)) r (now (out .exit)) ⌝ }
     {
-        let bytes = self.bytes;
-        let len = self.len;
-        let word = Decimal::of(&bytes[..len]);
+        let word = Decimal::of(line);
         match word {
             Decimal::Wrong => self.refuse(14, out, at),
             Decimal::Is(pv) => self.sample(pv, out, at),

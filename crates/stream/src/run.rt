@@ -3,8 +3,8 @@ ghost use mathlib.Core.Path.{_≡_};
 ghost use Prim.Native.Nat.{_+_, _≤_};
 ghost use lib.ListN.{length};
 ghost use lib.Seq.{sets};
-ghost use Rattle.stream.specs.Run.{lineRoom, refusedLine, refusing, following, overOf, nextOf, Tells, keeping};
-use pid::record::Loop;
+ghost use Rattle.stream.specs.Run.{lineRoom, refusedLine, refusing, following, overOf, nextOf, Tells};
+use delivery::numbered::Numbered;
 use text::buffer::put;
 use text::buffer::put_unsigned;
 
@@ -13,10 +13,18 @@ use text::buffer::put_unsigned;
 pub struct Run {
     pub ended: bool,
     pub journal: bool,
-    pub bytes: [u8; 80],
+    pub bytes: [u8; Run::LINE],
     pub len: usize,
     pub line: u32,
-    pub state: Loop,
+    pub state: Numbered,
+}
+
+impl Run {
+    // The room for a line of the file, which no well-formed line passes.
+    pub const LINE: usize = 80;
+
+    // The room for what one byte of a file can make a program write.
+    pub const ROOM: usize = 128;
 }
 
 // What a step leaves, and the place after what it put.
@@ -50,18 +58,22 @@ fn following(line: u32) -> u32
 }
 
 impl Run {
+    // Ended, with no line under way.
     pub(crate) fn over(mut self) -> Run
         ensures { λ r. ⌜ r ≡ overOf self ⌝ }
     {
         self.ended = true;
+        self.bytes = [0; Run::LINE];
+        self.len = 0;
         self
     }
 
     // The next line begins.
-    pub(crate) fn next(mut self, state: Loop) -> Run
+    pub(crate) fn next(mut self, state: Numbered) -> Run
         ensures { λ r. ⌜ r ≡ nextOf self state ⌝ }
     {
         let line = following(self.line);
+        self.bytes = [0; Run::LINE];
         self.len = 0;
         self.line = line;
         self.state = state;
@@ -78,21 +90,5 @@ impl Run {
             run: self.over(),
             at: end,
         }
-    }
-
-    // A byte of the line under way; a line longer than any well-formed one is refused at once.
-    pub(crate) fn keep(mut self, b: u8, out: &mut [u8], at: usize) -> Told
-        requires { ⌜ at + lineRoom ≤ length (now out) ⌝ }
-        ensures { λ r. ⌜ Tells lineRoom (keeping self b) at (now (out .entry)) r (now (out .exit)) ⌝ }
-    {
-        let len = self.len;
-        if 80 <= len {
-            return self.refuse(14, out, at);
-        }
-        let mut bytes = self.bytes;
-        bytes[len] = b;
-        self.bytes = bytes;
-        self.len = len + 1;
-        Told { run: self, at }
     }
 }

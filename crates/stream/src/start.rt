@@ -5,16 +5,16 @@ ghost use Rattle.stream.specs.Feed.{Counts};
 ghost use Rattle.stream.specs.Start.{startOf, firstLoop, beginOf, outBegun};
 use crate::feed::Ran;
 use crate::run::Run;
-use pid::record::Command;
-use pid::record::Loop;
-use pid::settings::Settings;
+use delivery::numbered::Numbered;
+use pid::command::Command;
+use settings::Settings;
 use text::reader::read_settings;
 
 // "It makes the loop, delivers automatic as number 1"; a journal has every delivery in its file.
-fn first_loop(journal: bool, settings: Settings) -> Loop
+fn first_loop(journal: bool, settings: Settings) -> Numbered
     ensures { λ r. ⌜ r ≡ firstLoop journal settings ⌝ }
 {
-    let made = Loop::make(settings);
+    let made = Numbered::make(settings);
     let state = made.state;
     if journal {
         return state;
@@ -24,13 +24,13 @@ fn first_loop(journal: bool, settings: Settings) -> Loop
 }
 
 impl Run {
-    fn start(journal: bool, line: u32, state: Loop) -> Run
+    fn start(journal: bool, line: u32, state: Numbered) -> Run
         ensures { λ r. ⌜ r ≡ startOf journal line state ⌝ }
     {
         Run {
             ended: false,
             journal,
-            bytes: [0; 80],
+            bytes: [0; Run::LINE],
             len: 0,
             line,
             state,
@@ -44,10 +44,10 @@ pub fn begin(journal: bool, settings: &[u8], out: &mut [u8]) -> Ran
     ensures { λ _. ⌜ now (out .exit) ≡ outBegun journal (now (settings .entry)) (now (out .entry)) ⌝ }
     ensures { λ r. ⌜ Counts (r .len) (now (out .exit)) ⌝ }
 {
-    if out.len() < 128 {
+    if out.len() < Run::ROOM {
         return Ran {
             done: false,
-            run: Run::start(journal, 0, Loop::blank()).over(),
+            run: Run::start(journal, 0, Numbered::blank()).over(),
             len: 0,
         };
     }
@@ -61,7 +61,7 @@ pub fn begin(journal: bool, settings: &[u8], out: &mut [u8]) -> Ran
             len: 0,
         };
     }
-    let told = Run::start(journal, read.line as u32, Loop::blank()).refuse(code, out, 0);
+    let told = Run::start(journal, read.line as u32, Numbered::blank()).refuse(code, out, 0);
     let run = told.run;
     Ran {
         done: true,

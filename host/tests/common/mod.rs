@@ -73,6 +73,34 @@ impl Program {
     }
 }
 
+/// The bytes of a piece in which the programs read their file of lines.
+const PIECE: usize = 4_096;
+
+/// Files in which each line in turn lies across the end of a piece, cut after each of its bytes: `filler` gives lines of
+/// so many bytes in all to stand before it, and `after` follows it.
+pub fn across_a_cut(
+    lines: &[Vec<u8>],
+    filler: impl Fn(usize) -> Vec<u8>,
+    after: &[u8],
+    check: impl Fn(&[u8]),
+) {
+    for line in lines {
+        for before in PIECE - line.len() - 1..=PIECE {
+            let mut file = filler(before);
+            assert_eq!(file.len(), before, "the lines before have so many bytes");
+            file.extend_from_slice(line);
+            file.extend_from_slice(after);
+            check(&file);
+        }
+    }
+}
+
+/// Lines of no byte, and of as many bytes as a line can have and one more, with and without their line feed.
+pub fn odd_lines() -> Vec<Vec<u8>> {
+    let ones = |count: usize, end: &str| format!("{}{end}", "1".repeat(count)).into_bytes();
+    [0, 80, 81].iter().flat_map(|&count| [ones(count, "\n"), ones(count, "")]).collect()
+}
+
 impl Drop for Program {
     fn drop(&mut self) {
         let _ = std::fs::remove_dir_all(&self.folder);

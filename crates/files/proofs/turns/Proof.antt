@@ -1,19 +1,25 @@
--- The measure is the count of turns that are left.
+-- The measure is the count of turns that are left; the buffer keeps its length.
+use Prim.Native.Nat.{ℕ}
+use mathlib.Core.Path.{_≡_}
+use lib.ListN.{length, length-replicate}
 use borrow.Author.Needs.{needs}
 use Rattle.files.proofs.turns.Statement.{statement}
 use Rattle.files.proofs.turns.Tie as tie
 
 abbrev Inv-loop : tie.InvT-loop
-Inv-loop fd path left₀ now₀ left now = Unit {0}
+Inv-loop fd path out₀ left₀ now₀ out left now = length out ≡ 524288
 
 abbrev μ-loop : tie.MeasureT-loop
-μ-loop fd path left₀ now₀ left now = left
+μ-loop fd path out₀ left₀ now₀ out left now = left
 
 loop-holds : tie.Need-loop-holds Inv-loop μ-loop
-loop-holds c = search needs
+loop-holds c = length-replicate {A = ℕ} 524288 0
 
 sub-left : tie.Need-sub-left Inv-loop μ-loop
 sub-left c = search needs
+
+slice-aggregate-turn : tie.Need-slice-aggregate-turn Inv-loop μ-loop
+slice-aggregate-turn c = search needs
 
 turn-requires : tie.Need-turn-requires Inv-loop μ-loop
 turn-requires c κs = search needs
@@ -38,6 +44,7 @@ turns-spec =
     μ-loop
     loop-holds
     sub-left
+    slice-aggregate-turn
     turn-requires
     loop-less
     loop-again

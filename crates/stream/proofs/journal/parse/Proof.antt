@@ -3,8 +3,8 @@ use mathlib.Core.Path.{_≡_, sym, ap, ap₂, _∙_}
 use mathlib.Core.List.{List}
 use denote.Ref.{now}
 use Rattle.text.specs.declared.decimal.Decimal.{Decimal}
-use Rattle.stream.specs.declared.number.Number.{Number}
-use Rattle.stream.specs.Number.{numberIn, signedIn}
+use Rattle.text.specs.declared.number.Number.{Number}
+use Rattle.text.specs.Number.{numberIn, signedIn}
 use Rattle.stream.specs.Journal.{wordIn, restIn, fieldIn, asking, delivering, numberKey, commandKey, valueKey, secondKey, deliveryOf}
 use borrow.Author.Needs.{needs}
 use Rattle.stream.proofs.journal.parse.Statement.{statement}

@@ -4,14 +4,15 @@ use native.Mathlib.Omega.{arith}
 use denote.Ref.{now}
 use lib.ListN.{length, drop, drop-of-length-le}
 use Rattle.text.proofs.Lists.{part-left}
-use Rattle.stream.specs.Journal.{spaceEnd, restIn}
-use Rattle.stream.proofs.Numbers.{space-in}
+use Rattle.text.specs.Reader.{endAt}
+use Rattle.stream.specs.Journal.{restIn}
+use Rattle.text.proofs.Words.{end-in}
 use borrow.Author.Needs.{needs}
 use Rattle.stream.proofs.journal.rest_in.Statement.{statement}
 use Rattle.stream.proofs.journal.rest_in.Tie as tie
 
-space-end-requires : tie.Need-space-end-requires
-space-end-requires c κs = search needs
+end-at-requires : tie.Need-end-at-requires
+end-at-requires c κs = search needs
 
 add-result : tie.Need-add-result
 add-result c = search needs
@@ -29,10 +30,10 @@ returns : tie.Need-returns
 unfolding restIn
 returns c =
     let s = now (c .before .before .before .before .args .rest) in
-    part-left s (c .before .before .space-end .result + 1) ∙ ap (λ (n : ℕ). drop (n + 1) s) (c .before .before .space-end .ensures)
+    part-left s (c .before .before .end-at .result + 1) ∙ ap (λ (n : ℕ). drop (n + 1) s) (c .before .before .end-at .ensures)
 
-there : (c : tie.Else1) → c .before .space-end .result ≤ length (now (c .before .before .before .args .rest))
-there c = omega (arith, c .before .space-end .ensures, space-in (now (c .before .before .before .args .rest)))
+there : (c : tie.Else1) → c .before .end-at .result ≤ length (now (c .before .before .before .args .rest))
+there c = omega (arith, c .before .end-at .ensures, end-in 32 (now (c .before .before .before .args .rest)))
 
 sub-result-2 : tie.Need-sub-result-2
 sub-result-2 c = there c
@@ -47,15 +48,15 @@ returns-2 : tie.Need-returns-2
 unfolding restIn
 returns-2 c =
     let s = now (c .before .before .before .before .args .rest) in
-    let e = c .before .before .space-end .ensures in
-    let h : length s ≤ spaceEnd s + 1 = omega (arith, e, c .before .if1 .left) in
-    part-left s (c .before .before .space-end .result) ∙ drop-of-length-le s (c .before .if1 .left) ∙ sym (drop-of-length-le s h)
+    let e = c .before .before .end-at .ensures in
+    let h : length s ≤ endAt 32 s + 1 = omega (arith, e, c .before .if1 .left) in
+    part-left s (c .before .before .end-at .result) ∙ drop-of-length-le s (c .before .if1 .left) ∙ sym (drop-of-length-le s h)
 
 pub rest-in-spec : {M : Type 1} → statement M
 rest-in-spec =
     tie.close
     (tie.spec
-    space-end-requires
+    end-at-requires
     add-result
     sub-result
     part-result-start

@@ -5,23 +5,23 @@ use denote.Ref.{now}
 use lib.ListN.{length, take}
 use lib.Seq.{length-take-le}
 use Rattle.stream.specs.Journal.{wordIn}
-use Rattle.stream.proofs.Numbers.{space-in}
+use Rattle.text.proofs.Words.{end-in}
 use borrow.Author.Needs.{needs}
 use Rattle.stream.proofs.journal.word_in.Statement.{statement}
 use Rattle.stream.proofs.journal.word_in.Tie as tie
 
-space-end-requires : tie.Need-space-end-requires
-space-end-requires c κs = search needs
+end-at-requires : tie.Need-end-at-requires
+end-at-requires c κs = search needs
 
 slice-aggregate-result : tie.Need-slice-aggregate-result
 slice-aggregate-result c =
     let s = now (c .before .before .before .args .rest) in
-    let h : c .before .space-end .result ≤ length s = omega (arith, c .before .space-end .ensures, space-in s) in
+    let h : c .before .end-at .result ≤ length s = omega (arith, c .before .end-at .ensures, end-in 32 s) in
     sym (length-take-le _ _ h)
 
 returns : tie.Need-returns
 unfolding wordIn
-returns c = ap (λ (n : ℕ). take n (now (c .before .before .before .args .rest))) (c .before .space-end .ensures)
+returns c = ap (λ (n : ℕ). take n (now (c .before .before .before .args .rest))) (c .before .end-at .ensures)
 
 pub word-in-spec : {M : Type 1} → statement M
-word-in-spec = tie.close (tie.spec space-end-requires slice-aggregate-result returns)
+word-in-spec = tie.close (tie.spec end-at-requires slice-aggregate-result returns)

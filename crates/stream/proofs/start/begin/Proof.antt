@@ -1,11 +1,12 @@
-use Prim.Native.Nat.{_≤_}
+use Prim.Native.Nat.{_+_, _≤_}
 use mathlib.Core.Path.{_≡_, sym, ap, ap₂, _∙_}
 use mathlib.Core.List.{[]}
 use native.Mathlib.Omega.{arith}
 use borrow.Author.Tests.{lt-leb, le-leb, eq-eqb, ne-eqb}
 use denote.Ref.{now}
 use Rattle.whole.proofs.Truth.{so, cond-yes, cond-no}
-use Rattle.pid.specs.Record.{blankLoop}
+use Rattle.settings.specs.Table.{lines}
+use Rattle.delivery.specs.Numbered.{blankOf}
 use Rattle.text.specs.declared.reader.Reading.{Reading}
 use Rattle.text.specs.Reader.{readText}
 use Rattle.stream.specs.Run.{Step, overOf, refusing}
@@ -55,7 +56,7 @@ returns-2 c =
     rw b (ran-done {n = 0} (noRun j) t (le-leb _ _ (o .before .if1 .left)) (omega arith) (step-quiet e))
 
 -- the line that is reported is small
-line-told : (c : tie.After-read-settings) → c .read-settings .result .line ≤ 27
+line-told : (c : tie.After-read-settings) → c .read-settings .result .line ≤ lines + 1
 line-told c = rw (c .read-settings .ensures) (line-few (now (c .before .before .before .before .args .settings)))
 
 cast-start : tie.Need-cast-start
@@ -82,8 +83,8 @@ returns-3 c =
     let d = readText (now (s .args .settings)) in
     let r = c .before .before .before in
     let k : o .read-settings .result .code ≡ d .code = ap (λ (x : Reading). x .code) (o .read-settings .ensures) in
-    let b : beginning j (now (s .args .settings)) ≡ refusing (startOf j (d .line) blankLoop) (d .code) = cond-no _ _ (ne-eqb _ _ (λ z. c .before .before .before .before .before .before .before .before .if2 .left (k ∙ z))) in
-    let e : r .before .before .start3 .result ≡ startOf j (d .line) blankLoop =
+    let b : beginning j (now (s .args .settings)) ≡ refusing (startOf j (d .line) blankOf) (d .code) = cond-no _ _ (ne-eqb _ _ (λ z. c .before .before .before .before .before .before .before .before .if2 .left (k ∙ z))) in
+    let e : r .before .before .start3 .result ≡ startOf j (d .line) blankOf =
     r .before .before .start3 .ensures ∙ ap₂ (startOf j) (ap (λ (x : Reading). x .line) (o .read-settings .ensures)) (r .before .before .before .blank2 .ensures) in
     ran-done (noRun j) (beginning j (now (s .args .settings))) (le-leb _ _ (o .before .if1 .left)) (o .before .if1 .left) (step-by (b ∙ sym (ap₂ refusing e k)) (r .refuse .ensures))
 

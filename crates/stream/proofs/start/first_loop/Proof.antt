@@ -1,9 +1,9 @@
 use mathlib.Core.Path.{sym, ap, _∙_}
 use Rattle.whole.proofs.Truth.{cond-yes, cond-no}
-use Rattle.pid.specs.declared.record.Command.the-variants.{Automatic}
-use Rattle.pid.specs.declared.record.Made.{Made}
-use Rattle.pid.specs.declared.delivery.Delivered.{Delivered}
-use Rattle.pid.specs.Delivery.{deliveredOf}
+use Rattle.pid.specs.declared.command.Command.the-variants.{Automatic}
+use Rattle.delivery.specs.declared.numbered.Made.{Made}
+use Rattle.delivery.specs.declared.numbered.Delivered.{Delivered}
+use Rattle.delivery.specs.Numbered.{deliveredOf}
 use Rattle.stream.specs.Start.{firstLoop}
 use borrow.Author.Needs.{needs}
 use Rattle.stream.proofs.start.first_loop.Statement.{statement}

@@ -1,26 +1,13 @@
-use Prim.Native.Nat.{_≤_}
-use mathlib.Core.Path.{_≡_, sym, ap, _∙_}
-use native.Mathlib.Omega.{arith}
-use lib.ListN.{length}
-use lib.Seq.{length-take-le}
-use Rattle.pid.specs.declared.delivery.Delivered.{Delivered}
+use mathlib.Core.Path.{sym, ap, _∙_}
+use denote.Ref.{now}
+use Rattle.delivery.specs.declared.numbered.Delivered.{Delivered}
 use Rattle.stream.specs.declared.journal.Delivery.{Delivery}
-use Rattle.stream.specs.Run.{wordOf, lineStep}
+use Rattle.stream.specs.Run.{lineStep}
 use Rattle.stream.specs.Journal.{journalAnswer, byDelivery, journalLine}
 use Rattle.stream.proofs.Steps.{step-by}
 use borrow.Author.Needs.{needs}
 use Rattle.stream.proofs.run.Run.journal_line.Statement.{statement}
 use Rattle.stream.proofs.run.Run.journal_line.Tie as tie
-
-array-share-prefix-bytes : tie.Need-array-share-prefix-bytes
-array-share-prefix-bytes c = let e : length (c .before .before .args .self .bytes) ≡ 80 = search needs in omega arith
-
-slice-aggregate-parse : tie.Need-slice-aggregate-parse
-slice-aggregate-parse c =
-    let s = c .before .before .before in
-    let e : length (s .args .self .bytes) ≡ 80 = search needs in
-    let h : s .args .self .len ≤ length (s .args .self .bytes) = omega arith in
-    sym (length-take-le _ _ h)
 
 parse-requires : tie.Need-parse-requires
 parse-requires c κs = search needs
@@ -47,8 +34,9 @@ returns : tie.Need-returns
 unfolding journalLine
 returns c =
     let p = c .before .before .before .before .before .before .before in
-    let r = p .before .before .before .before .args .self in
-    step-by (ap (λ (d : Delivery). lineStep r (byDelivery (r .state) (wordOf r) d)) (sym (p .parse .ensures) ∙ c .before .before .before .before .enum-told .given .1)) (c .before .before .refuse .ensures)
+    let s = p .before .before .before in
+    let r = s .args .self in
+    step-by (ap (λ (d : Delivery). lineStep r (byDelivery (r .state) (now (s .args .line)) d)) (sym (p .parse .ensures) ∙ c .before .before .before .before .enum-told .given .1)) (c .before .before .refuse .ensures)
 
 same-length-2 : tie.Need-same-length-2
 same-length-2 c = search needs
@@ -57,18 +45,18 @@ returns-2 : tie.Need-returns-2
 unfolding journalLine
 returns-2 c =
     let p = c .before .before .before .before .before .before .before .before .before in
-    let r = p .before .before .before .before .args .self in
+    let s = p .before .before .before in
+    let r = s .args .self in
+    let w = now (s .args .line) in
     step-by
-    (ap (λ (d : Delivery). lineStep r (byDelivery (r .state) (wordOf r) d)) (sym (p .parse .ensures) ∙ c .before .before .before .before .before .before .asked .given .1)
-    ∙ ap (λ (d : Delivered). lineStep r (journalAnswer (wordOf r) d)) (sym (c .before .before .before .before .deliver .ensures)))
+    (ap (λ (d : Delivery). lineStep r (byDelivery (r .state) w d)) (sym (p .parse .ensures) ∙ c .before .before .before .before .before .before .asked .given .1)
+    ∙ ap (λ (d : Delivered). lineStep r (journalAnswer w d)) (sym (c .before .before .before .before .deliver .ensures)))
     (c .before .before .reply .ensures)
 
 pub journal-line-spec : {M : Type 1} → statement M
 journal-line-spec =
     tie.close
     (tie.spec
-    array-share-prefix-bytes
-    slice-aggregate-parse
     parse-requires
     enum-told
     refuse-requires

@@ -6,7 +6,7 @@ following-requires : tie.Need-following-requires
 following-requires c κs = search needs
 
 returns : tie.Need-returns
-returns c = rw (c .following .ensures)
+returns c = rw (c .before .following .ensures)
 
 pub next-spec : {M : Type 1} → statement M
 next-spec = tie.close (tie.spec following-requires returns)

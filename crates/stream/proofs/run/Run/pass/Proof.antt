@@ -1,47 +1,109 @@
-use Prim.Native.Nat.{_*_, _-_, _≤_}
-use mathlib.Core.Path.{_≡_, refl}
-use lib.ListN.{length}
-use Rattle.stream.specs.Run.{lineRoom}
-use Rattle.stream.proofs.Pieces.{Passed, passed-none, passed-more, passed-all}
+-- The loop's invariant: the whole piece leads to what the rest of it leads to, and each byte passed has left its room.
+use Prim.Native.Nat.{ℕ, _+_, _*_, _-_, _<_, _≤_}
+use mathlib.Core.Path.{_≡_, refl, sym, ap, ap₂, _∙_}
+use mathlib.Core.List.{List, [], _∷_, _++_, append-nil}
 use native.Mathlib.Omega.{arith}
+use borrow.Author.Tests.{lt-ltb, le-ltb}
+use denote.Ref.{now}
+use lib.ListN.{length, take, drop, length-drop, drop-of-length-le}
+use lib.Seq.{take-all, length-take-le}
+use Rattle.text.proofs.Lists.{part-left}
+use Rattle.stream.specs.Run.{lineRoom}
+use Rattle.stream.specs.Feed.{lineOf}
+use Rattle.text.specs.Reader.{feed}
+use Rattle.text.proofs.Words.{end-in}
+use Rattle.stream.proofs.Feeds.{feed-split, feed-plain, all-plain}
+use Rattle.stream.proofs.Line.{part-passing, line-passing}
+use Rattle.stream.proofs.Pieces.{Passed, passed-none, passed-more, passed-all}
 use borrow.Author.Needs.{needs}
 use Rattle.stream.proofs.run.Run.pass.Statement.{statement}
 use Rattle.stream.proofs.run.Run.pass.Tie as tie
 
 abbrev Inv-loop : tie.InvT-loop
-Inv-loop piece out₀ run₀ at₀ i₀ out run at i =
-    (i ≤ length piece) × (length out ≡ length out₀) × (at ≤ i * lineRoom) × Passed run₀ piece out₀ run at i out
+Inv-loop piece out₀ run₀ at₀ rest₀ out run at rest =
+    (length out ≡ length out₀) × (at + length rest * lineRoom ≤ length piece * lineRoom) × Passed run₀ piece out₀ run at rest out
 
 abbrev μ-loop : tie.MeasureT-loop
-μ-loop piece out₀ run₀ at₀ i₀ out run at i = length piece - i
+μ-loop piece out₀ run₀ at₀ rest₀ out run at rest = length rest
 
 loop-holds : tie.Need-loop-holds Inv-loop μ-loop
-loop-holds c = (omega arith, refl, omega arith, passed-none)
+loop-holds c = (refl, omega arith, passed-none)
 
-shared-slice-read-byte : tie.Need-shared-slice-read-byte Inv-loop μ-loop
-shared-slice-read-byte c = omega arith
+end-at-requires : tie.Need-end-at-requires Inv-loop μ-loop
+end-at-requires c κs = search needs
 
-byte-requires : tie.Need-byte-requires Inv-loop μ-loop
-byte-requires c κs = search needs
+-- the line feed's place lies within the rest, or at its end
+within : (c : tie.After-end-at Inv-loop μ-loop) → c .end-at .result ≤ length (now (c .before .before .loop .rest))
+within c = omega (arith, c .end-at .ensures, end-in feed (now (c .before .before .loop .rest)))
 
-add-i : tie.Need-add-i Inv-loop μ-loop
-add-i c = omega arith
+slice-aggregate-take : tie.Need-slice-aggregate-take Inv-loop μ-loop
+slice-aggregate-take c = sym (length-take-le _ _ (within (c .before)))
+
+take-requires : tie.Need-take-requires Inv-loop μ-loop
+take-requires c κs = search needs
+
+same-length : tie.Need-same-length Inv-loop μ-loop
+same-length c = search needs
+
+-- no line feed is left
+returns : tie.Need-returns Inv-loop μ-loop
+returns c =
+    let p = c .before .before .before .before .before .before in
+    let l = c .before .before .before .before .before .before .before .before .loop in
+    let s = now (l .rest) in
+    let n = p .end-at .result in
+    let k = c .before .before .before .take .ensures in
+    let h : 0 < length s = omega arith in
+    let g : length s ≤ n = omega (arith, c .if1 .taken) in
+    let f = part-passing (l .run) s (all-plain n s (p .end-at .ensures) (c .if1 .taken)) h ∙ sym (ap₂ (lineOf (l .run)) (take-all n s g) (le-ltb n (length s) g)) in
+    passed-all (omega (arith, k .few, l .inv .1)) (passed-more s [] (sym (append-nil s)) f (l .inv .2) k)
+
+-- past the test the line feed is there
+there : (c : tie.Else1 Inv-loop μ-loop) → c .before .before .before .before .before .before .end-at .result < length (now (c .before .before .before .before .before .before .before .before .loop .rest))
+there c = omega (arith, within (c .before .before .before .before .before .before), c .if1 .left)
+
+add-rest : tie.Need-add-rest Inv-loop μ-loop
+add-rest c = omega (arith, there (c .before), c .before .before .before .before .before .before .before .before .before .loop .inv .1)
+
+sub-rest : tie.Need-sub-rest Inv-loop μ-loop
+sub-rest c = omega (arith, there (c .before))
+
+part-rest-start : tie.Need-part-rest-start Inv-loop μ-loop
+part-rest-start c = omega (arith, there (c .before))
+
+part-rest-end : tie.Need-part-rest-end Inv-loop μ-loop
+part-rest-end c = search needs
+
+-- how much is left after it
+left : (c : tie.After-rest Inv-loop μ-loop) →
+    let n = c .before .before .before .before .before .before .before .before .end-at .result in
+    let s = now (c .before .before .before .before .before .before .before .before .before .before .loop .rest) in
+    length (take (length s - (n + 1)) (drop (n + 1) s)) ≡ length s - (n + 1)
+left c = let n = c .before .before .before .before .before .before .before .before .end-at .result in let s = now (c .before .before .before .before .before .before .before .before .before .before .loop .rest) in ap length (part-left s (n + 1)) ∙ length-drop (n + 1) s
 
 loop-less : tie.Need-loop-less Inv-loop μ-loop
-loop-less c = omega arith
+loop-less c = omega (arith, there (c .before .before), left c)
 
 loop-again : tie.Need-loop-again Inv-loop μ-loop
 loop-again c =
-    let t = c .before .before .before in
-    let l = t .before .before .before .before .loop in
-    let e = t .byte .ensures in
-    (omega arith, search needs, omega (arith, e .few), passed-more (omega arith) (l .inv .3) e)
+    let l = c .before .before .before .before .before .before .before .before .before .before .loop in
+    let n = c .before .before .before .before .before .before .before .before .end-at .result in
+    let s = now (l .rest) in
+    let e = c .before .before .before .before .before .before .before .before .end-at .ensures in
+    let h = there (c .before .before) in
+    let k = c .before .before .before .before .before .take .ensures in
+    let d = feed-split n s e h ∙ ap (λ (x : List ℕ). (take n s ++ (feed ∷ [])) ++ x) (sym (part-left s (n + 1))) in
+    let f = line-passing (l .run) (take n s) (feed-plain n s e) ∙ ap (lineOf (l .run) (take n s)) (sym (lt-ltb n (length s) h)) in
+    (search needs, omega (arith, k .few, l .inv .1, left c), passed-more (take n s ++ (feed ∷ [])) _ d f (l .inv .2) k)
 
-same-length : tie.Need-same-length Inv-loop μ-loop
-same-length c = c .before .loop .inv .1
+same-length-2 : tie.Need-same-length-2 Inv-loop μ-loop
+same-length-2 c = c .before .loop .inv .0
 
-returns : tie.Need-returns Inv-loop μ-loop
-returns c = let l = c .before .loop in passed-all (omega arith) (omega arith) (omega arith) (l .inv .3)
+returns-2 : tie.Need-returns-2 Inv-loop μ-loop
+returns-2 c =
+    let l = c .before .loop in
+    let e : now (l .rest) ≡ [] = drop-of-length-le (now (l .rest)) (c .loop-test .left) in
+    passed-all (omega (arith, l .inv .1)) (rw e at (l .inv .2))
 
 pub pass-spec : {M : Type 1} → statement M
 pass-spec =
@@ -50,10 +112,16 @@ pass-spec =
     Inv-loop
     μ-loop
     loop-holds
-    shared-slice-read-byte
-    byte-requires
-    add-i
+    end-at-requires
+    slice-aggregate-take
+    take-requires
+    same-length
+    returns
+    add-rest
+    sub-rest
+    part-rest-start
+    part-rest-end
     loop-less
     loop-again
-    same-length
-    returns)
+    same-length-2
+    returns-2)

@@ -1,11 +1,7 @@
 use mir.Syntax.{w32}
 use mir.Val.{SFits}
 use mir.Facts.{toZ-ofZ}
-use Prim.Native.Nat.{_≤_}
-use mathlib.Core.Path.{_≡_, sym, ap, _∙_}
-use native.Mathlib.Omega.{arith}
-use lib.ListN.{length}
-use lib.Seq.{length-take-le}
+use mathlib.Core.Path.{sym, ap, _∙_}
 use Rattle.text.specs.declared.decimal.Decimal.{Decimal}
 use Rattle.stream.specs.Run.{lineStep}
 use Rattle.stream.specs.Oven.{byDecimal, sampleLine}
@@ -13,12 +9,6 @@ use Rattle.stream.proofs.Steps.{step-by}
 use borrow.Author.Needs.{needs}
 use Rattle.stream.proofs.run.Run.sample_line.Statement.{statement}
 use Rattle.stream.proofs.run.Run.sample_line.Tie as tie
-
-array-share-prefix-bytes : tie.Need-array-share-prefix-bytes
-array-share-prefix-bytes c = let e : length (c .before .before .args .self .bytes) ≡ 80 = search needs in omega arith
-
-slice-aggregate-of : tie.Need-slice-aggregate-of
-slice-aggregate-of c = let e : length (c .before .before .before .args .self .bytes) ≡ 80 = search needs in let f : c .before .before .before .args .self .len ≤ length (c .before .before .before .args .self .bytes) = omega arith in sym (length-take-le _ _ f)
 
 of-requires : tie.Need-of-requires
 of-requires c κs = search needs
@@ -42,7 +32,7 @@ returns : tie.Need-returns
 unfolding sampleLine
 returns c =
     let o = c .before .before .before .before .before .before in
-    let s = o .before .before .before .before in
+    let s = o .before .before .before in
     step-by (ap (λ (d : Decimal). lineStep (s .args .self) (byDecimal (s .args .self .state) d)) (sym (o .of .ensures) ∙ c .before .before .before .before .enum-told .given .1)) (c .before .before .refuse .ensures)
 
 same-length-2 : tie.Need-same-length-2
@@ -52,7 +42,7 @@ returns-2 : tie.Need-returns-2
 unfolding sampleLine
 returns-2 c =
     let o = c .before .before .before .before .before .before .before in
-    let s = o .before .before .before .before in
+    let s = o .before .before .before in
     let w : SFits w32 (c .before .before .before .before .before .word .given .0 .0) = search needs in
     step-by (ap (λ (d : Decimal). lineStep (s .args .self) (byDecimal (s .args .self .state) d)) (sym (o .of .ensures) ∙ c .before .before .before .before .before .word .given .1)) (rw (toZ-ofZ w) at (c .before .before .sample .ensures))
 
@@ -60,8 +50,6 @@ pub sample-line-spec : {M : Type 1} → statement M
 sample-line-spec =
     tie.close
     (tie.spec
-    array-share-prefix-bytes
-    slice-aggregate-of
     of-requires
     enum-told
     refuse-requires
