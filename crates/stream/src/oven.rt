@@ -2,9 +2,10 @@
 ghost use Prim.Native.Nat.{_+_, _≤_};
 ghost use lib.ListN.{length};
 ghost use Rattle.stream.specs.Run.{answered, lineRoom, lineStep, Tells};
-ghost use Rattle.stream.specs.Oven.{outputLine, bySample, sampleLine};
+ghost use Rattle.stream.specs.Oven.{outputLine, byAnswer, bySample, sampleLine};
 use crate::run::Run;
 use crate::run::Told;
+use delivery::numbered::Delivered;
 use delivery::numbered::Numbered;
 use pid::command::Command;
 use text::buffer::put;
@@ -25,6 +26,19 @@ impl Run {
         }
     }
 
+    // An accepted sample is answered, a refused one ends the run.
+    fn tell(self, told: Delivered, out: &mut [u8], at: usize) -> Told
+        requires { ⌜ at + lineRoom ≤ length (now out) ⌝ }
+        ensures { λ r. ⌜ Tells lineRoom (lineStep self (byAnswer told)) at (now (out .entry)) r (now (out .exit)) ⌝ }
+    {
+        let code = told.code;
+        if code == 0 {
+            let next = told.state;
+            return self.answer(next, told.output, out, at);
+        }
+        self.refuse(code, out, at)
+    }
+
     fn sample(self, pv: i32, out: &mut [u8], at: usize) -> Told
         requires { ⌜ at + lineRoom ≤ length (now out) ⌝ }
         ensures { λ r. ⌜ Tells lineRoom (lineStep self (bySample (self .state) pv)) at (now (out .entry)) r (now (out .exit)) ⌝ }
@@ -34,13 +48,7 @@ impl Run {
         if last == u32::MAX {
             return self.refuse(13, out, at);
         }
-        let told = state.deliver(last + 1, Command::Sample(pv));
-        let code = told.code;
-        if code == 0 {
-            let next = told.state;
-            return self.answer(next, told.output, out, at);
-        }
-        self.refuse(code, out, at)
+        self.tell(state.deliver(last + 1, Command::Sample(pv)), out, at)
     }
 
     // A whole line, its line feed left out.

@@ -1,13 +1,18 @@
 // How a run starts: from a settings text.
 ghost use mathlib.Core.Path.{_≡_};
+ghost use Prim.Native.Nat.{_+_, _≤_};
 ghost use lib.ListN.{length};
+ghost use Rattle.settings.specs.Table.{lines};
+ghost use Rattle.stream.specs.Run.{lineRoom, Tells};
 ghost use Rattle.stream.specs.Feed.{Counts};
-ghost use Rattle.stream.specs.Start.{startOf, firstLoop, beginOf, outBegun};
+ghost use Rattle.stream.specs.Start.{startOf, firstLoop, begunBy, beginOf, outBegun};
 use crate::feed::Ran;
 use crate::run::Run;
+use crate::run::Told;
 use delivery::numbered::Numbered;
 use pid::command::Command;
 use settings::Settings;
+use text::reader::Reading;
 use text::reader::read_settings;
 
 // "It makes the loop, delivers automatic as number 1"; a journal has every delivery in its file.
@@ -38,7 +43,23 @@ impl Run {
     }
 }
 
-// A run from the settings text, over a file of samples or of deliveries; a refusal of the settings ends it.
+// The run that a reading of the settings begins; a refusal of them ends it.
+fn begun(journal: bool, read: Reading, out: &mut [u8]) -> Told
+    requires { ⌜ (read .line ≤ lines + 1) × (lineRoom ≤ length (now out)) ⌝ }
+    ensures { λ r. ⌜ Tells lineRoom (begunBy journal read) 0 (now (out .entry)) r (now (out .exit)) ⌝ }
+{
+    let code = read.code;
+    if code == 0 {
+        let found = read.settings;
+        return Told {
+            run: Run::start(journal, 1, first_loop(journal, found)),
+            at: 0,
+        };
+    }
+    Run::start(journal, read.line as u32, Numbered::blank()).refuse(code, out, 0)
+}
+
+// A run from the settings text, over a file of samples or of deliveries.
 pub fn begin(journal: bool, settings: &[u8], out: &mut [u8]) -> Ran
     ensures { λ r. ⌜ r ≡ beginOf journal (now (settings .entry)) (length (now (out .entry))) ⌝ }
     ensures { λ _. ⌜ now (out .exit) ≡ outBegun journal (now (settings .entry)) (now (out .entry)) ⌝ }
@@ -51,17 +72,7 @@ pub fn begin(journal: bool, settings: &[u8], out: &mut [u8]) -> Ran
             len: 0,
         };
     }
-    let read = read_settings(settings);
-    let code = read.code;
-    if code == 0 {
-        let found = read.settings;
-        return Ran {
-            done: true,
-            run: Run::start(journal, 1, first_loop(journal, found)),
-            len: 0,
-        };
-    }
-    let told = Run::start(journal, read.line as u32, Numbered::blank()).refuse(code, out, 0);
+    let told = begun(journal, read_settings(settings), out);
     let run = told.run;
     Ran {
         done: true,

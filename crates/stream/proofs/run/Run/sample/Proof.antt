@@ -1,5 +1,3 @@
-use mir.Syntax.{w32}
-use mir.Val.{SFits}
 use mathlib.Core.Path.{_≡_, sym, ap, _∙_}
 use borrow.Author.Tests.{eq-eqb, ne-eqb}
 use mir.Facts.{toZ-ofZ}
@@ -18,8 +16,10 @@ same-length : tie.Need-same-length
 same-length c = search needs
 
 returns : tie.Need-returns
-unfolding bySample byAnswer
-returns c = step-by (ap (lineStep (c .before .before .before .before .before .before .before .args .self)) (cond-yes _ _ (eq-eqb _ _ (c .before .before .before .before .if1 .taken)))) (c .before .before .refuse .ensures)
+unfolding bySample
+returns c =
+    let i = c .before .before .before .before in
+    step-by (ap (lineStep (i .before .before .before .args .self)) (cond-yes _ _ (eq-eqb _ _ (i .if1 .taken)))) (c .before .before .refuse .ensures)
 
 add-deliver : tie.Need-add-deliver
 add-deliver c = search needs
@@ -27,36 +27,19 @@ add-deliver c = search needs
 deliver-requires : tie.Need-deliver-requires
 deliver-requires c κs = search needs
 
-answer-requires : tie.Need-answer-requires
-answer-requires c κs = search needs
+tell-requires : tie.Need-tell-requires
+tell-requires c κs = search needs
 
 same-length-2 : tie.Need-same-length-2
 same-length-2 c = search needs
 
--- the delivery is that of the sample, under the number after the last
-told : (c : tie.After-deliver) → c .deliver .result ≡ sampledOf (c .before .before .before .before .args .self .state) (c .before .before .before .before .args .pv)
-told c = rw (toZ-ofZ (c .before .before .before .before .fits .pv)) at (c .deliver .ensures)
-
 returns-2 : tie.Need-returns-2
-unfolding bySample byAnswer
+unfolding bySample
 returns-2 c =
-    let d = c .before .before .before .before .before .before .before in
+    let d = c .before .before .before .before in
     let s = d .before .before .before .before in
-    let f : SFits w32 (d .deliver .result .output) = search needs in
-    step-by (ap (lineStep (s .args .self)) (cond-no _ _ (ne-eqb _ _ (d .before .if1 .left)) ∙ ap byAnswer (sym (told d)) ∙ cond-yes _ _ (eq-eqb _ _ (c .before .before .before .before .before .before .if2 .taken)))) (rw (toZ-ofZ f) at (c .before .before .answer .ensures))
-
-refuse-requires-2 : tie.Need-refuse-requires-2
-refuse-requires-2 c κs = search needs
-
-same-length-3 : tie.Need-same-length-3
-same-length-3 c = search needs
-
-returns-3 : tie.Need-returns-3
-unfolding bySample byAnswer
-returns-3 c =
-    let d = c .before .before .before .before .before in
-    let s = d .before .before .before .before in
-    step-by (ap (lineStep (s .args .self)) (cond-no _ _ (ne-eqb _ _ (d .before .if1 .left)) ∙ ap byAnswer (sym (told d)) ∙ cond-no _ _ (ne-eqb _ _ (c .before .before .before .before .if2 .left)))) (c .before .before .refuse2 .ensures)
+    let e : d .deliver .result ≡ sampledOf (s .args .self .state) (s .args .pv) = rw (toZ-ofZ (s .fits .pv)) at (d .deliver .ensures) in
+    step-by (ap (lineStep (s .args .self)) (cond-no _ _ (ne-eqb _ _ (d .before .if1 .left)) ∙ ap byAnswer (sym e))) (c .before .before .tell .ensures)
 
 pub sample-spec : {M : Type 1} → statement M
 sample-spec =
@@ -67,9 +50,6 @@ sample-spec =
     returns
     add-deliver
     deliver-requires
-    answer-requires
+    tell-requires
     same-length-2
-    returns-2
-    refuse-requires-2
-    same-length-3
-    returns-3)
+    returns-2)
