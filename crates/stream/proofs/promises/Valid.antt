@@ -22,9 +22,10 @@ use Rattle.text.specs.Decimal.{decimalOf}
 use Rattle.stream.specs.declared.run.Run.{Run}
 use Rattle.stream.specs.Run.{Step, Judged, refused, answered, lineMost, wordOf, lineStep, keeping}
 use Rattle.stream.specs.Oven.{sampledOf, byAnswer, bySample, byDecimal, sampleLine}
-use Rattle.stream.specs.declared.journal.Delivery.{Delivery}
-use Rattle.stream.specs.declared.journal.Delivery.the-variants.{Is, Wrong}
-use Rattle.stream.specs.Journal.{deliveryOf, byDelivery, journalLine}
+use Rattle.delivery_line.specs.declared.Delivery.{Delivery}
+use Rattle.delivery_line.specs.declared.Delivery.the-variants.{Is, Wrong}
+use Rattle.delivery_line.specs.Line.{deliveryOf}
+use Rattle.stream.specs.Journal.{byDelivery, journalLine}
 use Rattle.stream.specs.Feed.{judgedBy, judging, byteOf, after}
 use Rattle.stream.specs.Start.{firstLoop, begunBy, beginning}
 use Rattle.stream.proofs.Starts.{text-right}

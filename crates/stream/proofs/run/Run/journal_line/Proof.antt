@@ -1,7 +1,7 @@
 use mathlib.Core.Path.{sym, ap, _∙_}
 use denote.Ref.{now}
 use Rattle.delivery.specs.declared.numbered.Delivered.{Delivered}
-use Rattle.stream.specs.declared.journal.Delivery.{Delivery}
+use Rattle.delivery_line.specs.declared.Delivery.{Delivery}
 use Rattle.stream.specs.Run.{lineStep}
 use Rattle.stream.specs.Journal.{journalAnswer, byDelivery, journalLine}
 use Rattle.stream.proofs.Steps.{step-by}

@@ -5,10 +5,10 @@ use denote.Ref.{now}
 use Rattle.text.specs.declared.decimal.Decimal.{Decimal}
 use Rattle.text.specs.declared.number.Number.{Number}
 use Rattle.text.specs.Number.{numberIn, signedIn}
-use Rattle.stream.specs.Journal.{wordIn, restIn, fieldIn, asking, delivering, numberKey, commandKey, valueKey, secondKey, deliveryOf}
+use Rattle.delivery_line.specs.Line.{wordIn, restIn, fieldIn, asking, delivering, numberKey, commandKey, valueKey, secondKey, deliveryOf}
 use borrow.Author.Needs.{needs}
-use Rattle.stream.proofs.journal.parse.Statement.{statement}
-use Rattle.stream.proofs.journal.parse.Tie as tie
+use Rattle.delivery_line.proofs.parse.Statement.{statement}
+use Rattle.delivery_line.proofs.parse.Tie as tie
 
 rest-in-requires : tie.Need-rest-in-requires
 rest-in-requires c κs = search needs

@@ -6,10 +6,10 @@ use lib.IntN.{pos}
 use mir.Facts.{toZ-ofZ}
 use Rattle.whole.specs.Numbers.{eqZ}
 use Rattle.whole.proofs.Truth.{so}
-use Rattle.stream.specs.Journal.{isTarget, isSample, isPut, isSet, isHold, isAutomatic, commandOf}
+use Rattle.delivery_line.specs.Line.{isTarget, isSample, isPut, isSet, isHold, isAutomatic, commandOf}
 use borrow.Author.Needs.{needs}
-use Rattle.stream.proofs.journal.command.Statement.{statement}
-use Rattle.stream.proofs.journal.command.Tie as tie
+use Rattle.delivery_line.proofs.command.Statement.{statement}
+use Rattle.delivery_line.proofs.command.Tie as tie
 
 slice-aggregate-same-word : tie.Need-slice-aggregate-same-word
 slice-aggregate-same-word c = search needs

@@ -5,10 +5,10 @@ use lib.ListN.{length}
 use Rattle.whole.proofs.Truth.{so, cond-yes, cond-no}
 use Rattle.text.proofs.Lists.{part-left}
 use Rattle.text.proofs.Texts.{begun-long}
-use Rattle.stream.specs.Journal.{fieldIn}
+use Rattle.delivery_line.specs.Line.{fieldIn}
 use borrow.Author.Needs.{needs}
-use Rattle.stream.proofs.journal.field.Statement.{statement}
-use Rattle.stream.proofs.journal.field.Tie as tie
+use Rattle.delivery_line.proofs.field.Statement.{statement}
+use Rattle.delivery_line.proofs.field.Tie as tie
 
 begins-requires : tie.Need-begins-requires
 begins-requires c κs = search needs

@@ -1,6 +1,6 @@
 use borrow.Author.Needs.{needs}
-use Rattle.stream.proofs.journal.same_word.Statement.{statement}
-use Rattle.stream.proofs.journal.same_word.Tie as tie
+use Rattle.delivery_line.proofs.same_word.Statement.{statement}
+use Rattle.delivery_line.proofs.same_word.Tie as tie
 
 begins-requires : tie.Need-begins-requires
 begins-requires c κs = search needs

@@ -4,11 +4,11 @@ use native.Mathlib.Omega.{arith}
 use denote.Ref.{now}
 use lib.ListN.{length, take}
 use lib.Seq.{length-take-le}
-use Rattle.stream.specs.Journal.{wordIn}
+use Rattle.delivery_line.specs.Line.{wordIn}
 use Rattle.text.proofs.Words.{end-in}
 use borrow.Author.Needs.{needs}
-use Rattle.stream.proofs.journal.word_in.Statement.{statement}
-use Rattle.stream.proofs.journal.word_in.Tie as tie
+use Rattle.delivery_line.proofs.word_in.Statement.{statement}
+use Rattle.delivery_line.proofs.word_in.Tie as tie
 
 end-at-requires : tie.Need-end-at-requires
 end-at-requires c κs = search needs

@@ -5,11 +5,11 @@ use denote.Ref.{now}
 use lib.ListN.{length, drop, drop-of-length-le}
 use Rattle.text.proofs.Lists.{part-left}
 use Rattle.text.specs.Reader.{endAt}
-use Rattle.stream.specs.Journal.{restIn}
+use Rattle.delivery_line.specs.Line.{restIn}
 use Rattle.text.proofs.Words.{end-in}
 use borrow.Author.Needs.{needs}
-use Rattle.stream.proofs.journal.rest_in.Statement.{statement}
-use Rattle.stream.proofs.journal.rest_in.Tie as tie
+use Rattle.delivery_line.proofs.rest_in.Statement.{statement}
+use Rattle.delivery_line.proofs.rest_in.Tie as tie
 
 end-at-requires : tie.Need-end-at-requires
 end-at-requires c κs = search needs

@@ -2,8 +2,8 @@ use mir.Syntax.{w32}
 use mir.Val.{SFits}
 use mir.Facts.{toZ-ofZ}
 use borrow.Author.Needs.{needs}
-use Rattle.stream.proofs.journal.ask.Statement.{statement}
-use Rattle.stream.proofs.journal.ask.Tie as tie
+use Rattle.delivery_line.proofs.ask.Statement.{statement}
+use Rattle.delivery_line.proofs.ask.Tie as tie
 
 enum-told : tie.Need-enum-told
 enum-told c = search needs
