@@ -9,7 +9,7 @@ use lib.Dec.{eqb}
 use lib.IntN.{ℤ, _+ℤ_}
 use lib.ListN.{length}
 use Rattle.whole.proofs.Truth.{never, and, both}
-use Rattle.pid.specs.declared.command.Command.{Command}
+use Rattle.command.specs.declared.Command.{Command}
 use Rattle.pid.specs.declared.record.Loop.{Loop}
 use Rattle.pid.specs.Record.{valid}
 use Rattle.pid.specs.Law.{refusalOf, stepOf}

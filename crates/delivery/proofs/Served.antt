@@ -6,13 +6,13 @@ use native.Mathlib.Omega.{arith}
 use borrow.Author.Tests.{eq-eqb, ne-eqb, eqb-true, eqb-false}
 use lib.Dec.{eqb}
 use Rattle.whole.proofs.Truth.{never, and, both, by-test, chosen, cond-yes}
-use Rattle.pid.specs.declared.command.Command.{Command}
+use Rattle.command.specs.declared.Command.{Command}
 use Rattle.pid.specs.declared.law.Obeyed.{Obeyed}
 use Rattle.pid.specs.Record.{valid}
 use Rattle.pid.specs.Law.{refusalOf, stepOf, lawOf}
 use Rattle.pid.proofs.Kept.{step-valid}
 use Rattle.pid.proofs.Obeys.{obeys, refuses, breaks, never-ten}
-use Rattle.pid.proofs.Same.{same-self}
+use Rattle.command.proofs.Same.{same-self}
 use Rattle.delivery.specs.declared.memory.Last.the-variants.{Kept}
 use Rattle.delivery.specs.declared.memory.Found.{Found}
 use Rattle.delivery.specs.declared.memory.Found.the-variants.{Old, Reused, Repeated, Ahead, Next}

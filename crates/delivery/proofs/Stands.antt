@@ -9,9 +9,9 @@ use lib.Dec.{eqb, ltb, leb}
 use lib.IntN.{ℤ}
 use lib.ListN.{length}
 use Rattle.whole.proofs.Truth.{never, and, both, by-test, chosen, cond-yes, cond-no, push}
-use Rattle.pid.specs.declared.command.Command.{Command}
+use Rattle.command.specs.declared.Command.{Command}
 use Rattle.pid.specs.declared.record.Loop.{Loop}
-use Rattle.pid.specs.Command.{same}
+use Rattle.command.specs.Command.{same}
 use Rattle.pid.specs.Record.{valid}
 use Rattle.pid.specs.Law.{refusalOf, stepOf}
 use Rattle.pid.specs.Sequence.{after, each}

@@ -9,9 +9,9 @@ use mathlib.Core.Path.{_≡_}
 use mathlib.Core.List.{List, [], _∷_}
 use lib.IntN.{ℤ}
 use lib.ListN.{length}
-use Rattle.pid.specs.declared.command.Command.{Command}
+use Rattle.command.specs.declared.Command.{Command}
 use Rattle.pid.specs.declared.record.Loop.{Loop}
-use Rattle.pid.specs.Command.{same}
+use Rattle.command.specs.Command.{same}
 use Rattle.pid.specs.Law.{refusalOf, stepOf}
 use Rattle.pid.specs.Sequence.{after, each}
 use Rattle.delivery.specs.declared.memory.Last.{Last}

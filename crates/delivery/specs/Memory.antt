@@ -2,8 +2,8 @@
 use Prim.Native.Nat.{ℕ, _+_}
 use mathlib.Core.Bool.{Bool, false, not, cond, _||_}
 use lib.Dec.{eqb, ltb}
-use Rattle.pid.specs.declared.command.Command.{Command}
-use Rattle.pid.specs.Command.{same}
+use Rattle.command.specs.declared.Command.{Command}
+use Rattle.command.specs.Command.{same}
 use Rattle.delivery.specs.declared.memory.Last.{Last}
 use Rattle.delivery.specs.declared.memory.Last.the-variants.{Nothing, Kept}
 use Rattle.delivery.specs.declared.memory.Memory.{Memory}

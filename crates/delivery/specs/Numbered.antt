@@ -5,7 +5,7 @@ use mathlib.Core.Bool.{Bool, cond, _&&_}
 use lib.Dec.{eqb}
 use lib.IntN.{pos}
 use Rattle.settings.specs.declared.Settings.{Settings}
-use Rattle.pid.specs.declared.command.Command.{Command}
+use Rattle.command.specs.declared.Command.{Command}
 use Rattle.pid.specs.declared.record.Loop.{Loop}
 use Rattle.pid.specs.Record.{blankLoop, valid, madeOf as Loop·madeOf}
 use Rattle.pid.specs.Law.{refusalOf, stepOf}

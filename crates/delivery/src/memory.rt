@@ -1,7 +1,7 @@
 // What is remembered of the deliveries, and what it says of a number: it looks into no loop.
 ghost use mathlib.Core.Path.{_≡_};
 ghost use Rattle.delivery.specs.Memory.{isLast, noMemory, remembered, lastOk, foundOf};
-use pid::command::Command;
+use command::Command;
 
 // The last command kept.
 pub enum Last {

@@ -3,7 +3,7 @@ ghost use mathlib.Core.Path.{_≡_};
 ghost use Rattle.delivery.specs.Numbered.{newOf, madeOf, blankOf, validOf, answerOf, brokenOf, keptOf, settledOf, triedOf, deliveredOf};
 use crate::memory::Found;
 use crate::memory::Memory;
-use pid::command::Command;
+use command::Command;
 use pid::record::Loop;
 use settings::Settings;
 

@@ -6,7 +6,7 @@ ghost use lib.ListN.{length};
 ghost use Rattle.delivery.specs.Numbered.{memoryOk};
 ghost use Rattle.delivery.specs.Replay.{numbersLeft, refusedOf, stoppedOf, replayedOf, writtenOf};
 use crate::numbered::Numbered;
-use pid::command::Command;
+use command::Command;
 
 pub struct Replayed {
     pub code: u8,

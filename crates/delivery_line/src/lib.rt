@@ -1,7 +1,7 @@
 // A delivery as a line of text: a command under a number. It knows no loop.
 ghost use mathlib.Core.Path.{_≡_};
 ghost use Rattle.delivery_line.specs.Line.{wordIn, restIn, fieldIn, sameWord, commandOf, asking, deliveryOf};
-use pid::command::Command;
+use command::Command;
 use text::decimal::Decimal;
 use text::number::Number;
 use text::number::signed;

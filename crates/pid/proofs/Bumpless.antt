@@ -8,8 +8,8 @@ use lib.IntN.{ℤ}
 use Rattle.whole.specs.Numbers.{plus}
 use Rattle.whole.proofs.Truth.{never, chosen}
 use Rattle.pid.specs.declared.record.Loop.{Loop}
-use Rattle.pid.specs.declared.command.Command.{Command}
-use Rattle.pid.specs.declared.command.Command.the-variants.{Sample, Hold, Put, Automatic, Target, Set}
+use Rattle.command.specs.declared.Command.{Command}
+use Rattle.command.specs.declared.Command.the-variants.{Sample, Hold, Put, Automatic, Target, Set}
 use Rattle.pid.specs.Sample.{actedOf}
 use Rattle.pid.specs.Law.{sampleOf, stepOf}
 use Rattle.pid.specs.Sequence.{after}

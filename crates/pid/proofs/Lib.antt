@@ -9,7 +9,6 @@ pub mod Obeys
 pub mod Bumpless
 pub mod Shares
 pub mod Ramp
-pub mod Same
 pub mod Turns
 pub mod Plays
 pub mod promises

@@ -8,8 +8,8 @@ use lib.IntN.{ℤ, pos}
 use Rattle.whole.specs.Numbers.{inside}
 use Rattle.whole.proofs.Truth.{chosen}
 use Rattle.settings.specs.Table.{sets}
-use Rattle.pid.specs.declared.command.Command.{Command}
-use Rattle.pid.specs.declared.command.Command.the-variants.{Sample, Hold, Put, Automatic, Target, Set}
+use Rattle.command.specs.declared.Command.{Command}
+use Rattle.command.specs.declared.Command.the-variants.{Sample, Hold, Put, Automatic, Target, Set}
 use Rattle.pid.specs.declared.record.Loop.{Loop}
 use Rattle.pid.specs.Record.{inReach, inRates, valid}
 use Rattle.pid.specs.Law.{refusalOf, stepOf, lawOf}

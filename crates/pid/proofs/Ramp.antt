@@ -13,8 +13,8 @@ use Rattle.whole.proofs.Truth.{never, chosen}
 use Rattle.whole.proofs.Parts.{zs, no-minus, no-plus, inside-yes}
 use Rattle.whole.proofs.Lin.{Lin, at, lins}
 use Rattle.pid.specs.declared.record.Loop.{Loop}
-use Rattle.pid.specs.declared.command.Command.{Command}
-use Rattle.pid.specs.declared.command.Command.the-variants.{Sample, Hold, Put, Automatic, Target, Set}
+use Rattle.command.specs.declared.Command.{Command}
+use Rattle.command.specs.declared.Command.the-variants.{Sample, Hold, Put, Automatic, Target, Set}
 use Rattle.pid.specs.Record.{valid}
 use Rattle.pid.specs.Sample.{lesser, ramped, sensedOf, actedOf}
 use Rattle.pid.specs.Law.{sampleOf, stepOf}

@@ -4,8 +4,8 @@ use mathlib.Core.Bool.{Bool, true, false, cond, _||_}
 use lib.Dec.{eqb}
 use lib.IntN.{ℤ, pos, negℤ, _*ℤ_}
 use Rattle.whole.specs.Numbers.{plus, eqZ, inside}
-use Rattle.pid.specs.declared.command.Command.{Command}
-use Rattle.pid.specs.declared.command.Command.the-variants.{Sample, Hold, Put, Automatic, Target, Set}
+use Rattle.command.specs.declared.Command.{Command}
+use Rattle.command.specs.declared.Command.the-variants.{Sample, Hold, Put, Automatic, Target, Set}
 use Rattle.pid.specs.declared.record.Loop.{Loop}
 use Rattle.pid.specs.declared.sample.Fixed.{Fixed}
 use Rattle.pid.specs.declared.sample.Moving.{Moving}

@@ -1,6 +1,5 @@
 pub mod Sequence
 pub mod Units
-pub mod Command
 pub mod Record
 pub mod Sample
 pub mod Bounds

@@ -8,12 +8,12 @@ ghost use Rattle.settings.specs.Table.{sets};
 ghost use Rattle.settings.specs.Settings.{gainsAt};
 ghost use Rattle.pid.specs.Record.{inReach, valid};
 ghost use Rattle.pid.specs.Law.{signOf, fixedOf, movingOf, withMoving, sampleRefusal, putRefusal, targetRefusal, setRefusal, refusalOf, sampleOf, holdOf, putOf, automaticOf, targetOf, setOf, stepOf, lawOf};
-use crate::command::Command;
 use crate::record::Loop;
 use crate::sample::Fixed;
 use crate::sample::Moving;
 use crate::sample::act;
 use crate::sample::sense;
+use command::Command;
 use settings::Gains;
 use settings::Settings;
 

@@ -8,7 +8,7 @@ use lib.ListN.{length}
 use Rattle.settings.specs.declared.Settings.{Settings}
 use Rattle.settings.specs.Table.{lines}
 use Rattle.settings.specs.Settings.{settingsOf}
-use Rattle.pid.specs.declared.command.Command.the-variants.{Automatic, Set, Target}
+use Rattle.command.specs.declared.Command.the-variants.{Automatic, Set, Target}
 use Rattle.delivery.specs.declared.numbered.Numbered.{Numbered}
 use Rattle.delivery.specs.Numbered.{madeOf, deliveredOf}
 use Rattle.delivery.specs.Replay.{replayedOf, writtenOf}

@@ -3,8 +3,8 @@ ghost use mathlib.Core.Path.{_≡_};
 ghost use lib.ListN.{length};
 ghost use Rattle.settings.specs.Table.{lines};
 ghost use Rattle.port.specs.Port.{readyOf, codeOf, outOf};
+use command::Command;
 use delivery::numbered::Numbered;
-use pid::command::Command;
 use settings::Settings;
 
 // The numbers of a list that has as many as settings have values.

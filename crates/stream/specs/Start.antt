@@ -5,7 +5,7 @@ use mathlib.Core.List.{List, [], _++_}
 use lib.Dec.{eqb, leb}
 use lib.ListN.{length}
 use Rattle.settings.specs.declared.Settings.{Settings}
-use Rattle.pid.specs.declared.command.Command.the-variants.{Automatic}
+use Rattle.command.specs.declared.Command.the-variants.{Automatic}
 use Rattle.delivery.specs.declared.numbered.Numbered.{Numbered}
 use Rattle.delivery.specs.Numbered.{blankOf, madeOf, deliveredOf}
 use Rattle.text.specs.declared.reader.Reading.{Reading}

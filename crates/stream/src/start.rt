@@ -9,8 +9,8 @@ ghost use Rattle.stream.specs.Start.{startOf, firstLoop, begunBy, beginO
 use crate::feed::Ran;
 use crate::run::Run;
 use crate::run::Told;
+use command::Command;
 use delivery::numbered::Numbered;
-use pid::command::Command;
 use settings::Settings;
 use text::reader::Reading;
 use text::reader::read_settings;

@@ -14,7 +14,7 @@ use Rattle.whole.proofs.Truth.{never, both, and, by-test, cond-no}
 use Rattle.settings.specs.declared.Settings.{Settings}
 use Rattle.settings.specs.Table.{rows}
 use Rattle.settings.specs.Settings.{inTable}
-use Rattle.pid.specs.declared.command.Command.{Command}
+use Rattle.command.specs.declared.Command.{Command}
 use Rattle.pid.specs.Units.{fine}
 use Rattle.pid.specs.Record.{inB, valid}
 use Rattle.pid.specs.Law.{refusalOf, stepOf}

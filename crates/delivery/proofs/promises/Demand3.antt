@@ -9,18 +9,18 @@ use lib.ListN.{length, take}
 use Rattle.settings.specs.declared.Settings.{Settings}
 use Rattle.settings.specs.Table.{rows}
 use Rattle.settings.specs.Settings.{inTable}
-use Rattle.pid.specs.declared.command.Command.{Command}
-use Rattle.pid.specs.declared.command.Command.the-variants.{Sample, Automatic, Target, Set}
+use Rattle.command.specs.declared.Command.{Command}
+use Rattle.command.specs.declared.Command.the-variants.{Sample, Automatic, Target, Set}
 use Rattle.pid.specs.declared.record.Loop.{Loop}
 use Rattle.pid.specs.Units.{rounded}
 use Rattle.settings.specs.SettingsC.{settingsC}
-use Rattle.pid.specs.Command.{same}
+use Rattle.command.specs.Command.{same}
 use Rattle.pid.specs.Record.{freshOf, valid, madeOf as Loop·madeOf}
 use Rattle.pid.specs.Sample.{lesser, greater, limited, ramped, filtered, derivative, sensedOf, clamped, backCalculated, integrated, actedOf}
 use Rattle.pid.specs.Law.{sampleOf, stepOf, refusalOf}
 use Rattle.pid.specs.Sequence.{after}
 use Rattle.pid.specs.Run.{unbroken, shares}
-use Rattle.pid.proofs.Same.{same-equal, same-self}
+use Rattle.command.proofs.Same.{same-equal, same-self}
 use Rattle.pid.proofs.promises.Demand1.{made-valid}
 use Rattle.delivery.specs.declared.numbered.Numbered.{Numbered}
 use Rattle.delivery.specs.Numbered.{newOf, madeOf, validOf}

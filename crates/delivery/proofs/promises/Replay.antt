@@ -12,7 +12,7 @@ use Rattle.whole.specs.Numbers.{inside}
 use Rattle.whole.proofs.Truth.{both}
 use Rattle.settings.specs.Table.{rows}
 use Rattle.settings.specs.Settings.{inTable}
-use Rattle.pid.specs.declared.command.Command.the-variants.{Sample}
+use Rattle.command.specs.declared.Command.the-variants.{Sample}
 use Rattle.settings.specs.SettingsC.{settingsC}
 use Rattle.pid.specs.Record.{freshOf, inReach, inB, valid}
 use Rattle.pid.specs.Sequence.{after, each}

@@ -10,7 +10,7 @@ use Rattle.whole.proofs.Truth.{chosen, cond-no, zero-if, zero-then}
 use Rattle.whole.proofs.Num.{nums, stays}
 use Rattle.settings.specs.declared.Settings.{Settings}
 use Rattle.pid.specs.declared.record.Loop.{Loop}
-use Rattle.pid.specs.declared.command.Command.{Command}
+use Rattle.command.specs.declared.Command.{Command}
 use Rattle.pid.specs.declared.record.Made.{Made}
 use Rattle.pid.specs.declared.law.Obeyed.{Obeyed}
 use Rattle.pid.specs.declared.sample.Fixed.{Fixed}

@@ -5,8 +5,8 @@ use mathlib.Core.Bool.{true}
 use mathlib.Core.List.{List}
 use lib.IntN.{ℤ, _+ℤ_}
 use Rattle.pid.specs.declared.record.Loop.{Loop}
-use Rattle.pid.specs.declared.command.Command.{Command}
-use Rattle.pid.specs.declared.command.Command.the-variants.{Sample}
+use Rattle.command.specs.declared.Command.{Command}
+use Rattle.command.specs.declared.Command.the-variants.{Sample}
 use Rattle.pid.specs.Record.{valid}
 use Rattle.pid.specs.Law.{stepOf}
 use Rattle.pid.specs.Run.{obeyed, accepted, switches, between, unbroken, shares, noTarget, samples, samplesToTarget}

@@ -3,8 +3,8 @@ use mathlib.Core.Path.{_≡_, refl}
 use mathlib.Core.Bool.{true, false}
 use mathlib.Core.List.{List, [], _∷_}
 use lib.IntN.{ℤ, pos, negsuc, _*ℤ_}
-use Rattle.pid.specs.declared.command.Command.{Command}
-use Rattle.pid.specs.declared.command.Command.the-variants.{Sample, Hold, Automatic, Target, Set}
+use Rattle.command.specs.declared.Command.{Command}
+use Rattle.command.specs.declared.Command.the-variants.{Sample, Hold, Automatic, Target, Set}
 use Rattle.pid.specs.declared.record.Loop.{Loop}
 use Rattle.pid.specs.declared.sample.Fixed.{Fixed}
 use Rattle.pid.specs.declared.sample.Moving.{Moving}

@@ -9,7 +9,7 @@ use lib.Dec.{eqb}
 use lib.IntN.{ℤ}
 use lib.ListN.{length}
 use Rattle.whole.proofs.Truth.{by-test}
-use Rattle.pid.specs.declared.command.Command.the-variants.{Sample}
+use Rattle.command.specs.declared.Command.the-variants.{Sample}
 use Rattle.pid.specs.declared.record.Loop.{Loop}
 use Rattle.pid.specs.declared.play.Played.{Played}
 use Rattle.pid.specs.Record.{valid}

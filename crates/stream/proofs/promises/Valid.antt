@@ -6,7 +6,7 @@ use mathlib.Core.List.{List, [], _∷_}
 use lib.Dec.{eqb, ltb}
 use Rattle.whole.proofs.Truth.{chosen, cond-yes}
 use Rattle.delivery.specs.declared.numbered.Numbered.{Numbered}
-use Rattle.pid.specs.declared.command.Command.the-variants.{Sample, Automatic}
+use Rattle.command.specs.declared.Command.the-variants.{Sample, Automatic}
 use Rattle.settings.specs.declared.Settings.{Settings}
 use Rattle.settings.specs.Settings.{settingsRefusal}
 use Rattle.pid.specs.declared.record.Made.{Made}

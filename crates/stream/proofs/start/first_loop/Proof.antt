@@ -1,6 +1,6 @@
 use mathlib.Core.Path.{sym, ap, _∙_}
 use Rattle.whole.proofs.Truth.{cond-yes, cond-no}
-use Rattle.pid.specs.declared.command.Command.the-variants.{Automatic}
+use Rattle.command.specs.declared.Command.the-variants.{Automatic}
 use Rattle.delivery.specs.declared.numbered.Made.{Made}
 use Rattle.delivery.specs.declared.numbered.Delivered.{Delivered}
 use Rattle.delivery.specs.Numbered.{deliveredOf}

@@ -7,7 +7,7 @@ use lib.ListN.{length, getD}
 use mir.Syntax.{w32}
 use Rattle.whole.proofs.Bits.{back}
 use Rattle.whole.proofs.Truth.{so}
-use Rattle.pid.specs.declared.command.Command.the-variants.{Sample}
+use Rattle.command.specs.declared.Command.the-variants.{Sample}
 use Rattle.pid.specs.declared.record.Loop.{Loop}
 use Rattle.pid.specs.declared.play.Played.{Played}
 use Rattle.pid.specs.Play.{playedOf}

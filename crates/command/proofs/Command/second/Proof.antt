@@ -1,8 +1,8 @@
 use mir.Syntax.{w32}
 use Rattle.whole.proofs.Bits.{back}
 use borrow.Author.Needs.{needs}
-use Rattle.pid.proofs.command.Command.second.Statement.{statement}
-use Rattle.pid.proofs.command.Command.second.Tie as tie
+use Rattle.command.proofs.Command.second.Statement.{statement}
+use Rattle.command.proofs.Command.second.Tie as tie
 
 enum-told : tie.Need-enum-told
 enum-told c = search needs

@@ -8,9 +8,9 @@ use lib.IntN.{ℤ}
 use Rattle.whole.specs.Numbers.{eqZ}
 use Rattle.whole.proofs.Truth.{both, and}
 use Rattle.whole.proofs.Parts.{yes-eqZ, eqZ-yes}
-use Rattle.pid.specs.declared.command.Command.{Command}
-use Rattle.pid.specs.declared.command.Command.the-variants.{Sample, Hold, Put, Automatic, Target, Set}
-use Rattle.pid.specs.Command.{kindOf, valueOf, secondOf, same}
+use Rattle.command.specs.declared.Command.{Command}
+use Rattle.command.specs.declared.Command.the-variants.{Sample, Hold, Put, Automatic, Target, Set}
+use Rattle.command.specs.Command.{kindOf, valueOf, secondOf, same}
 
 -- the command of a kind with its two values
 commandOf : ℕ → ℤ → ℤ → Command

@@ -1,8 +1,8 @@
 use mir.Syntax.{w32}
 use Rattle.whole.proofs.Bits.{back}
 use borrow.Author.Needs.{needs}
-use Rattle.pid.proofs.command.Command.same.Statement.{statement}
-use Rattle.pid.proofs.command.Command.same.Tie as tie
+use Rattle.command.proofs.Command.same.Statement.{statement}
+use Rattle.command.proofs.Command.same.Tie as tie
 
 kind-requires : tie.Need-kind-requires
 kind-requires c κs = search needs

@@ -1,6 +1,6 @@
-// The commands that a loop is given.
+// The commands that a loop is given, and which of them are the same.
 ghost use mathlib.Core.Path.{_≡_};
-ghost use Rattle.pid.specs.Command.{kindOf, valueOf, secondOf, same as Command·same};
+ghost use Rattle.command.specs.Command.{kindOf, valueOf, secondOf, same as Command·same};
 
 pub enum Command {
     Sample(i32),

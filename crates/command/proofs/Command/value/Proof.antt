@@ -1,8 +1,8 @@
 use mir.Syntax.{w32}
 use Rattle.whole.proofs.Bits.{back}
 use borrow.Author.Needs.{needs}
-use Rattle.pid.proofs.command.Command.value.Statement.{statement}
-use Rattle.pid.proofs.command.Command.value.Tie as tie
+use Rattle.command.proofs.Command.value.Statement.{statement}
+use Rattle.command.proofs.Command.value.Tie as tie
 
 enum-known-self : tie.Need-enum-known-self
 enum-known-self c = search needs

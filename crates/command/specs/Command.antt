@@ -4,8 +4,8 @@ use mathlib.Core.Bool.{Bool, _&&_}
 use lib.Dec.{eqb}
 use lib.IntN.{ℤ, pos}
 use Rattle.whole.specs.Numbers.{eqZ}
-use Rattle.pid.specs.declared.command.Command.{Command}
-use Rattle.pid.specs.declared.command.Command.the-variants.{Sample, Hold, Put, Automatic, Target, Set}
+use Rattle.command.specs.declared.Command.{Command}
+use Rattle.command.specs.declared.Command.the-variants.{Sample, Hold, Put, Automatic, Target, Set}
 
 -- which command it is
 abbrev pub kindOf : Command → ℕ
