@@ -1,11 +1,12 @@
-use mathlib.Core.Path.{ap}
+use mathlib.Core.Path.{sym, ap, _∙_}
 use borrow.Author.Tests.{eq-eqb, ne-eqb}
 use mir.Syntax.{w32}
 use mir.Val.{SFits}
 use mir.Facts.{toZ-ofZ}
 use Rattle.whole.proofs.Truth.{cond-yes, cond-no}
-use Rattle.stream.specs.Run.{lineStep}
-use Rattle.stream.specs.Oven.{byAnswer}
+use lib.IntN.{ℤ}
+use Rattle.stream.specs.Run.{answered, lineStep}
+use Rattle.stream.specs.Oven.{outputLine, byAnswer}
 use Rattle.stream.proofs.Steps.{step-by}
 use borrow.Author.Needs.{needs}
 use Rattle.stream.proofs.run.Run.tell.Statement.{statement}
@@ -23,7 +24,10 @@ returns c =
     let i = c .before .before .before .before .before .before in
     let s = i .before .before in
     let f : SFits w32 (s .args .told .output) = search needs in
-    step-by (ap (lineStep (s .args .self)) (cond-yes _ _ (eq-eqb _ _ (i .if1 .taken)))) (rw (toZ-ofZ f) at (c .before .before .answer .ensures))
+    step-by
+    (ap (lineStep (s .args .self))
+    (cond-yes _ _ (eq-eqb _ _ (i .if1 .taken)) ∙ ap (λ (u : ℤ). answered (s .args .told .state) (outputLine u)) (sym (toZ-ofZ f))))
+    (c .before .before .answer .ensures)
 
 refuse-requires : tie.Need-refuse-requires
 refuse-requires c κs = search needs
