@@ -1,7 +1,7 @@
 -- A list of deliveries, from any record that keeps the state rules: the law's end, the count, the last command, the answers.
 use Prim.Native.Nat.{ℕ, zero, suc, _+_}
 use mathlib.Core.Path.{_≡_, refl, sym, ap, _∙_}
-use mathlib.Core.Bool.{Bool, true, false, cond, _&&_}
+use mathlib.Core.Bool.{Bool, true, false, cond}
 use mathlib.Core.List.{List, [], _∷_}
 use native.Mathlib.Omega.{arith}
 use borrow.Author.Tests.{eqb-true}
@@ -21,7 +21,7 @@ use Rattle.delivery.specs.declared.memory.Last.the-variants.{Nothing, Ke
 use Rattle.delivery.specs.declared.numbered.Numbered.{Numbered}
 use Rattle.delivery.specs.Memory.{lastOk}
 use Rattle.delivery.specs.Numbered.{recordOf, memoryOk, validOf}
-use Rattle.delivery.specs.Walk.{Delivery, Walk, keeps, keeping, onward, answerTo, kept}
+use Rattle.delivery.specs.Walk.{Walk, keeps, keeping, onward, answerTo, kept}
 use Rattle.delivery.specs.Demand3.{plain, window, answered, handedBack, lastOf, recalled, standing, keptOn}
 use Rattle.delivery.proofs.Walked.{Sent, Runs, walked-state, walked-count, ends, all-answers}
 use Rattle.delivery.proofs.Stands.{lastIn, standsAt, Newest, Good, numbered}

@@ -19,7 +19,7 @@ use Rattle.delivery.specs.declared.memory.Found.the-variants.{Old, Reuse
 use Rattle.delivery.specs.declared.numbered.Numbered.{Numbered}
 use Rattle.delivery.specs.declared.numbered.Delivered.{Delivered}
 use Rattle.delivery.specs.Memory.{lastOk, isLast, foundOf}
-use Rattle.delivery.specs.Numbered.{memoryOk, validOf, answerOf, brokenOf, keptOf, tryOf, servedOf, deliveredOf, triedOf}
+use Rattle.delivery.specs.Numbered.{memoryOk, validOf, answerOf, brokenOf, keptOf, servedOf, deliveredOf, triedOf}
 use Rattle.delivery.proofs.Order.{Means, means, number-repeated, number-next}
 
 -- ---- the ways of `deliver`

@@ -1,20 +1,17 @@
 -- A loop with its memory is an engine of the plain law: one delivery to the record that stands where a walk stands.
 use Prim.Native.Nat.{ℕ, zero, suc, _+_, _-_, _≤_, _<_}
 use mathlib.Core.Path.{_≡_, refl, sym, ap, ap₂, _∙_, subst}
-use mathlib.Core.Bool.{Bool, true, false, cond, _&&_}
+use mathlib.Core.Bool.{Bool, true, false, cond}
 use mathlib.Core.List.{List, [], _∷_}
 use native.Mathlib.Omega.{arith}
 use borrow.Author.Tests.{eqb-true, eqb-false, ltb-true, ltb-false, leb-true, leb-false, ne-eqb}
 use lib.Dec.{eqb, ltb, leb}
 use lib.IntN.{ℤ}
-use lib.ListN.{length}
-use Rattle.whole.proofs.Truth.{never, and, both, by-test, chosen, cond-yes, cond-no, push}
-use Rattle.command.specs.declared.Command.{Command}
+use Rattle.whole.proofs.Truth.{and, by-test, cond-yes, cond-no, push}
 use Rattle.pid.specs.declared.record.Loop.{Loop}
 use Rattle.command.specs.Command.{same}
 use Rattle.pid.specs.Record.{valid}
 use Rattle.pid.specs.Law.{refusalOf, stepOf}
-use Rattle.pid.specs.Sequence.{after, each}
 use Rattle.pid.proofs.Kept.{step-valid}
 use Rattle.delivery.specs.declared.memory.Last.{Last}
 use Rattle.delivery.specs.declared.memory.Last.the-variants.{Nothing, Kept as Last·Kept}
@@ -23,11 +20,11 @@ use Rattle.delivery.specs.declared.memory.Found.the-variants.{Old, Reuse
 use Rattle.delivery.specs.declared.numbered.Numbered.{Numbered}
 use Rattle.delivery.specs.declared.numbered.Delivered.{Delivered}
 use Rattle.delivery.specs.Memory.{lastOk, isLast, foundBy, foundOf}
-use Rattle.delivery.specs.Numbered.{recordOf, memoryOk, validOf, answerOf, keptOf, tryOf, servedOf, deliveredOf}
-use Rattle.delivery.specs.Walk.{Answer, Kept, Walk, keeps, keptAnswer, keeping, onward, answerTo, kept}
-use Rattle.delivery.specs.Demand3.{plain, window, answerIn, answered, handedBack, lastOf, recalled, standing, keptOn}
+use Rattle.delivery.specs.Numbered.{recordOf, keptOf, servedOf, deliveredOf}
+use Rattle.delivery.specs.Walk.{Answer, Kept, Walk, keeps, keeping, onward}
+use Rattle.delivery.specs.Demand3.{plain, window, answerIn, answered, handedBack}
 use Rattle.delivery.proofs.Order.{number-zero, number-old, number-repeated, number-reused, number-ahead, number-next, Means, means}
-use Rattle.delivery.proofs.Walked.{Sent, Runs, foundAt, refusing, looked, tried, served, Engine, walked-state, walked-count, ends, all-answers, number-next as kept-next}
+use Rattle.delivery.proofs.Walked.{Sent, Runs, foundAt, refusing, looked, tried, served, Engine, number-next as kept-next}
 
 -- what a memory holds of the last kept deliveries
 unfoldable pub lastIn : List (Kept plain) → Last

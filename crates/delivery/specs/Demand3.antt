@@ -4,7 +4,7 @@
 -- the law's output, an exact repeat of the latest kept one gets that same answer, and every other gets its named refusal."
 --
 -- The walk stands in Walk.antt, over any law; here are 01's plain law, what `deliver` makes of a list, and the demand itself.
-use Prim.Native.Nat.{ℕ, _+_}
+use Prim.Native.Nat.{ℕ}
 use mathlib.Core.Path.{_≡_}
 use mathlib.Core.List.{List, [], _∷_}
 use lib.IntN.{ℤ}

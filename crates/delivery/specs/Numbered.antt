@@ -35,10 +35,11 @@ blankOf = newOf blankLoop
 abbrev pub madeOf : Settings → Made
 madeOf s = record { code = Loop·madeOf s .code; state = newOf (Loop·madeOf s .state) }
 
--- the state rules, all of them
+-- the memory's state rule
 abbrev pub memoryOk : Numbered → Bool
 memoryOk s = lastOk (s .memory .number) (s .memory .last)
 
+-- the state rules, all of them
 abbrev pub validOf : Numbered → Bool
 validOf s = memoryOk s && valid (s .state)
 

@@ -1,17 +1,15 @@
 -- A list of samples under the plain law: what a replay stands on. The contract of `play` says it by its definition
 -- (specs/Play.antt); here is what follows from it.
-use Prim.Native.Nat.{suc}
-use mathlib.Core.Path.{_≡_, refl, sym}
-use mathlib.Core.Bool.{true, cond}
+use mathlib.Core.Path.{_≡_, sym}
+use mathlib.Core.Bool.{true}
 use mathlib.Core.List.{List, [], _∷_, map}
-use borrow.Author.Tests.{eqb-true, eqb-false}
+use borrow.Author.Tests.{eqb-true}
 use lib.Dec.{eqb}
 use lib.IntN.{ℤ}
 use lib.ListN.{length}
 use Rattle.whole.proofs.Truth.{by-test}
 use Rattle.command.specs.declared.Command.the-variants.{Sample}
 use Rattle.pid.specs.declared.record.Loop.{Loop}
-use Rattle.pid.specs.declared.play.Played.{Played}
 use Rattle.pid.specs.Record.{valid}
 use Rattle.pid.specs.Sequence.{after}
 use Rattle.pid.specs.Play.{sampled, afterSamples, firstBad, playRefusal, playedOf, wroteOf}

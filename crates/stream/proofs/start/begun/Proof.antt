@@ -1,9 +1,8 @@
-use mathlib.Core.Path.{_≡_, sym, ap, ap₂, _∙_}
+use mathlib.Core.Path.{sym, ap, _∙_}
 use mathlib.Core.List.{[]}
 use native.Mathlib.Omega.{arith}
 use borrow.Author.Tests.{eq-eqb, ne-eqb}
 use Rattle.whole.proofs.Truth.{cond-yes, cond-no}
-use Rattle.delivery.specs.Numbered.{blankOf}
 use Rattle.stream.specs.declared.run.Run.{Run}
 use Rattle.stream.specs.Run.{Step, refusing}
 use Rattle.stream.specs.Start.{firstLoop, startOf, begunBy}

@@ -1,6 +1,5 @@
 use Prim.Native.Nat.{ℕ, _+_}
-use mathlib.Core.Path.{_≡_, sym, ap, _∙_}
-use mathlib.Core.Bool.{true}
+use mathlib.Core.Path.{_≡_, ap, _∙_}
 use mathlib.Core.List.{List}
 use native.Mathlib.Omega.{arith}
 use borrow.Author.Needs.{needs}
@@ -9,7 +8,6 @@ use lib.IntN.{ℤ}
 use lib.ListN.{length}
 use Rattle.whole.proofs.Truth.{so}
 use Rattle.delivery.specs.declared.numbered.Numbered.{Numbered}
-use Rattle.delivery.specs.Numbered.{memoryOk}
 use Rattle.delivery.specs.Replay.{replayedOf, writtenOf}
 use Rattle.delivery.proofs.ReplayOrder.{broken, stops-1, stops-3, stops-12, stops-13}
 use Rattle.delivery.proofs.numbered.Numbered.replay.Statement.{statement}
