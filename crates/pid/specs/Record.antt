@@ -7,8 +7,7 @@ use Rattle.settings.specs.declared.Settings.{Settings}
 use Rattle.pid.specs.declared.record.Loop.{Loop}
 use Rattle.pid.specs.declared.record.Made.{Made}
 use Rattle.pid.specs.Units.{B, fineReach}
-use Rattle.settings.specs.Table.{reach, fastest}
-use Rattle.settings.specs.Table.{sets}
+use Rattle.settings.specs.Table.{reach, fastest, sets}
 use Rattle.settings.specs.Settings.{inTable, ordered, settingsRefusal, blankSettings}
 
 -- "A fresh loop: manual, not pending, set 0, w = target = sp, rate and u as set, I = 0, not primed, y = 0"

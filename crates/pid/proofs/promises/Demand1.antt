@@ -17,8 +17,7 @@ use Rattle.pid.specs.declared.sample.Fixed.{Fixed}
 use Rattle.pid.specs.declared.sample.Moving.{Moving}
 use Rattle.pid.specs.declared.sample.Sensed.{Sensed}
 use Rattle.pid.specs.Units.{F, part, product}
-use Rattle.settings.specs.Table.{reach}
-use Rattle.settings.specs.Table.{rows}
+use Rattle.settings.specs.Table.{reach, rows}
 use Rattle.settings.specs.Settings.{blankSettings, settingsRefusal, inTable, ordered}
 use Rattle.pid.specs.Record.{freshOf, blankLoop, madeOf, inReach, inB, valid}
 use Rattle.pid.specs.Sample.{sensedOf, shareOf, vOf, limitedV}
