@@ -1,4 +1,3 @@
-mod Puts
 mod Steps
 mod Line
 mod Feeds

@@ -11,9 +11,11 @@ use lib.Dec.{eqb, ltb}
 use lib.ListN.{length}
 use Rattle.whole.proofs.Truth.{both, by-test, cond-yes, cond-no}
 use Rattle.text.proofs.Stores.{text-part}
+use Rattle.answer.specs.Verdict.{Verdict}
+use Rattle.answer.specs.Judge.{judgedBy}
 use Rattle.stream.specs.declared.run.Run.{Run}
-use Rattle.stream.specs.Run.{Step, Judged, refused, answered, lineMost, refusedLine, overOf, refusing, wordOf, lineStep, withLine, keptOf, keeping}
-use Rattle.stream.specs.Feed.{judgedBy, judging, idle, byteOf, after, written, passing, plain, grownOf, lineOf}
+use Rattle.stream.specs.Run.{Step, lineMost, refusedLine, overOf, refusing, wordOf, lineStep, withLine, keptOf, keeping}
+use Rattle.stream.specs.Feed.{judging, idle, byteOf, after, written, passing, plain, grownOf, lineOf}
 use Rattle.stream.proofs.promises.Cut.{cut-after, cut-written}
 
 -- ---- one byte
@@ -65,9 +67,8 @@ grown-more : (r : Run) (b : ℕ) (w : List ℕ) → grownOf (keptOf r b) w ≡ g
 grown-more r b w = ap₂ (withLine r) (rw add-one) (omega arith)
 
 -- what a line leads to does not depend on the bytes that are kept of it
-grown-step : (r : Run) (w : List ℕ) (j : Judged) → lineStep (grownOf r w) j ≡ lineStep r j
-grown-step r w (refused code) = refl
-grown-step r w (answered l text) = refl
+grown-step : (r : Run) (w : List ℕ) (v : Verdict) → lineStep (grownOf r w) v ≡ lineStep r v
+grown-step r w v = refl
 
 -- of a line that lies whole in a piece nothing was carried
 pub grown-word : (r : Run) (w : List ℕ) → r .len ≡ 0 → length (r .bytes) ≡ 80 → length w ≤ 80 → wordOf (grownOf r w) ≡ w

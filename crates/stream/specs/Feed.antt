@@ -6,18 +6,12 @@ use mathlib.Core.List.{List, [], _∷_, _++_}
 use lib.Dec.{eqb, ltb, leb}
 use lib.ListN.{length, take, drop}
 use lib.Seq.{sets}
-use Rattle.delivery.specs.declared.numbered.Numbered.{Numbered}
+use Rattle.answer.specs.Judge.{judgedBy}
 use Rattle.stream.specs.declared.run.Run.{Run}
 use Rattle.stream.specs.declared.feed.Ran.{Ran}
-use Rattle.stream.specs.Run.{Step, Judged, lineRoom, lineMost, refusing, wordOf, lineStep, withLine, keeping}
-use Rattle.stream.specs.Oven.{sampleLine}
-use Rattle.stream.specs.Journal.{journalLine}
+use Rattle.stream.specs.Run.{Step, lineRoom, lineMost, refusing, wordOf, lineStep, withLine, keeping}
 
 -- ---- one byte
-
--- a line is a delivery for the journal, else a sample
-abbrev pub judgedBy : Bool → Numbered → List ℕ → Judged
-judgedBy journal l w = cond journal (journalLine l w) (sampleLine l w)
 
 -- a line feed (byte 10) ends the line under way
 unfoldable pub judging : Run → Step

@@ -3,13 +3,14 @@ use Prim.Native.Nat.{ℕ, _+_, _≤_}
 use mathlib.Core.Path.{_≡_}
 use mathlib.Core.Bool.{true, cond}
 use mathlib.Core.List.{List, [], _++_}
-use lib.Dec.{ltb}
+use lib.Dec.{eqb, ltb}
 use lib.ListN.{length, take, set, replicate}
 use lib.Seq.{sets}
 use Rattle.delivery.specs.declared.numbered.Numbered.{Numbered}
 use Rattle.text.specs.Decimal.{shown}
 use Rattle.text.specs.Number.{highest}
 use Rattle.settings.specs.Words.{bytes}
+use Rattle.answer.specs.Verdict.{Verdict}
 use Rattle.stream.specs.declared.run.Run.{Run}
 use Rattle.stream.specs.declared.run.Told.{Told}
 
@@ -18,19 +19,19 @@ pub record Step : Type 0 where
   pub run : Run
   pub text : List ℕ
 
--- the place after what a step wrote from place at on
-abbrev pub toldOf : ℕ → Step → Told
-toldOf at s = record { run = s .run; at = at + length (s .text) }
+-- the same with its text in a lent buffer
+abbrev pub toldOf : Step → Told
+toldOf s = record { run = s .run; len = length (s .text) }
 
 -- the room for what one byte of a file can make a program write
 abbrev pub lineRoom : ℕ
 lineRoom = 128
 
--- what a function that does a step from place at on answers, and what the buffer then holds; room bounds what it writes
-pub record Tells (room : ℕ) (s : Step) (at : ℕ) (before : List ℕ) (r : Told) (after : List ℕ) : Type 0 where
-  pub is : r ≡ toldOf at s
-  pub holds : after ≡ sets before at (s .text)
-  pub few : r .at ≤ at + room
+-- what a function that does a step answers, and what the buffer then holds; room bounds what it writes
+pub record Tells (room : ℕ) (s : Step) (before : List ℕ) (r : Told) (after : List ℕ) : Type 0 where
+  pub is : r ≡ toldOf s
+  pub holds : after ≡ sets before 0 (s .text)
+  pub few : r .len ≤ room
 
 -- the room for a line of the file, which no well-formed line passes
 abbrev pub lineMost : ℕ
@@ -85,14 +86,9 @@ nextOf r l = record {
   state = l;
 }
 
--- what a program makes of a whole line: a refusal with its code, or the loop that it leaves and the text that answers it
-pub data Judged : Type 0 where
-  refused : ℕ → Judged
-  answered : Numbered → List ℕ → Judged
-
-abbrev pub lineStep : Run → Judged → Step
-lineStep r (refused code) = refusing r code
-lineStep r (answered l text) = record { run = nextOf r l; text = text }
+-- what the verdict on a whole line leads to
+abbrev pub lineStep : Run → Verdict → Step
+lineStep r v = cond (eqb (v .code) 0) (record { run = nextOf r (v .state); text = v .text }) (refusing r (v .code))
 
 -- with these bytes of a line, and so many of them
 abbrev pub withLine : Run → List ℕ → ℕ → Run

@@ -3,10 +3,12 @@ ghost use mathlib.Core.Path.{_≡_};
 ghost use Prim.Native.Nat.{_+_, _*_, _≤_};
 ghost use lib.Dec.{ltb};
 ghost use lib.ListN.{length};
+ghost use Rattle.answer.specs.Judge.{judgedBy};
 ghost use Rattle.stream.specs.Run.{lineRoom, lineMost, wordOf, lineStep, Tells};
-ghost use Rattle.stream.specs.Feed.{judgedBy, grownOf, lineOf, passing, fedOf, outFed, finishedOf, outFinished, Counts};
+ghost use Rattle.stream.specs.Feed.{grownOf, lineOf, passing, fedOf, outFed, finishedOf, outFinished, Counts};
 use crate::run::Run;
 use crate::run::Told;
+use answer::judge::judge;
 use text::buffer::put;
 use text::reader::end_at;
 
@@ -29,16 +31,21 @@ fn too_long(len: usize, part: &[u8]) -> bool
 }
 
 impl Run {
-    // What the program makes of a whole line.
-    fn judge(self, line: &[u8], out: &mut [u8], at: usize) -> Told
+    // What a whole line leads to.
+    fn judge(self, line: &[u8], out: &mut [u8]) -> Told
         requires { ⌜ length (now line) ≤ lineMost ⌝ }
-        requires { ⌜ at + lineRoom ≤ length (now out) ⌝ }
-        ensures { λ r. ⌜ Tells lineRoom (lineStep self (judgedBy (self .journal) (self .state) (now (line .entry)))) at (now (out .entry)) r (now (out .exit)) ⌝ }
+        ensures { λ r. ⌜ Tells lineRoom (lineStep self (judgedBy (self .journal) (self .state) (now (line .entry)))) (now (out .entry)) r (now (out .exit)) ⌝ }
     {
-        if self.journal {
-            return self.journal_line(line, out, at);
+        let judged = judge(self.journal, self.state, line, out);
+        let code = judged.code;
+        let state = judged.state;
+        if code == 0 {
+            return Told {
+                run: self.next(state),
+                len: judged.len,
+            };
         }
-        self.sample_line(line, out, at)
+        self.refuse(code, out)
     }
 
     // The line under way with more bytes of it.
@@ -56,58 +63,56 @@ impl Run {
 
     // A line whose last bytes these are. One that lies whole in the piece is judged where it stands; one that began in an
     // earlier piece is joined with what was carried of it.
-    fn line(self, part: &[u8], out: &mut [u8], at: usize) -> Told
+    fn line(self, part: &[u8], out: &mut [u8]) -> Told
         requires { ⌜ self .len + length (now part) ≤ lineMost ⌝ }
-        requires { ⌜ at + lineRoom ≤ length (now out) ⌝ }
-        ensures { λ r. ⌜ Tells lineRoom (lineStep self (judgedBy (self .journal) (self .state) (wordOf (grownOf self (now (part .entry)))))) at (now (out .entry)) r (now (out .exit)) ⌝ }
+        ensures { λ r. ⌜ Tells lineRoom (lineStep self (judgedBy (self .journal) (self .state) (wordOf (grownOf self (now (part .entry)))))) (now (out .entry)) r (now (out .exit)) ⌝ }
     {
         if self.len == 0 {
-            return self.judge(part, out, at);
+            return self.judge(part, out);
         }
         let joined = self.grown(part);
         let bytes = joined.bytes;
         let len = joined.len;
-        self.judge(&bytes[..len], out, at)
+        self.judge(&bytes[..len], out)
     }
 
     // The next bytes of a line, up to its line feed where that has come.
-    fn take(self, part: &[u8], fed: bool, out: &mut [u8], at: usize) -> Told
-        requires { ⌜ at + lineRoom ≤ length (now out) ⌝ }
-        ensures { λ r. ⌜ Tells lineRoom (lineOf self (now (part .entry)) fed) at (now (out .entry)) r (now (out .exit)) ⌝ }
+    fn take(self, part: &[u8], fed: bool, out: &mut [u8]) -> Told
+        ensures { λ r. ⌜ Tells lineRoom (lineOf self (now (part .entry)) fed) (now (out .entry)) r (now (out .exit)) ⌝ }
     {
         if self.ended {
-            return Told { run: self, at };
+            return Told { run: self, len: 0 };
         }
         if too_long(self.len, part) {
-            return self.refuse(14, out, at);
+            return self.refuse(14, out);
         }
         if fed {
-            return self.line(part, out, at);
+            return self.line(part, out);
         }
         Told {
             run: self.grown(part),
-            at,
+            len: 0,
         }
     }
 
     fn pass(self, piece: &[u8], out: &mut [u8]) -> Told
         requires { ⌜ length (now piece) * lineRoom ≤ length (now out) ⌝ }
-        ensures { λ r. ⌜ Tells (length (now (piece .entry)) * lineRoom) (passing self (now (piece .entry))) 0 (now (out .entry)) r (now (out .exit)) ⌝ }
+        ensures { λ r. ⌜ Tells (length (now (piece .entry)) * lineRoom) (passing self (now (piece .entry))) (now (out .entry)) r (now (out .exit)) ⌝ }
     {
         let mut run = self;
         let mut at: usize = 0;
         let mut rest = piece;
         while 0 < rest.len() {
             let end = end_at(rest, b'\n');
-            let told = run.take(&rest[..end], end < rest.len(), out, at);
-            if end == rest.len() {
-                return told;
-            }
+            let told = run.take(&rest[..end], end < rest.len(), &mut out[at..]);
             run = told.run;
-            at = told.at;
+            at += told.len;
+            if end == rest.len() {
+                return Told { run, len: at };
+            }
             rest = &rest[end + 1..];
         }
-        Told { run, at }
+        Told { run, len: at }
     }
 
     // The next piece of the file.
@@ -128,7 +133,7 @@ impl Run {
         Ran {
             done: true,
             run,
-            len: told.at,
+            len: told.len,
         }
     }
 
@@ -152,12 +157,12 @@ impl Run {
                 len: 0,
             };
         }
-        let told = self.refuse(14, out, 0);
+        let told = self.refuse(14, out);
         let run = told.run;
         Ran {
             done: true,
             run,
-            len: told.at,
+            len: told.len,
         }
     }
 }

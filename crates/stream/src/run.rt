@@ -27,20 +27,19 @@ impl Run {
     pub const ROOM: usize = 128;
 }
 
-// What a step leaves, and the place after what it put.
+// What a step leaves, and how many bytes it put, from the lent buffer's first on.
 pub(crate) struct Told {
     pub run: Run,
-    pub at: usize,
+    pub len: usize,
 }
 
 // "it writes `refused`, the code and the line, one space between, and a line feed"
-pub(crate) fn put_refused(out: &mut [u8], at: usize, code: u8, line: u32) -> usize
-    requires { ⌜ at + lineRoom ≤ length (now out) ⌝ }
-    ensures { λ r. ⌜ (r ≡ at + length (refusedLine code line)) × (r ≤ at + lineRoom) ⌝ }
-    ensures { λ _. ⌜ now (out .exit) ≡ sets (now (out .entry)) at (refusedLine code line) ⌝ }
+fn put_refused(out: &mut [u8], code: u8, line: u32) -> usize
+    ensures { λ r. ⌜ (r ≡ length (refusedLine code line)) × (r ≤ lineRoom) ⌝ }
+    ensures { λ _. ⌜ now (out .exit) ≡ sets (now (out .entry)) 0 (refusedLine code line) ⌝ }
 {
-    put(out, at, b"refused ");
-    let space = at + 8 + put_unsigned(out, at + 8, code as u32);
+    put(out, 0, b"refused ");
+    let space = 8 + put_unsigned(out, 8, code as u32);
     put(out, space, b" ");
     let end = space + 1 + put_unsigned(out, space + 1, line);
     put(out, end, b"\n");
@@ -81,14 +80,13 @@ impl Run {
     }
 
     // "The first refusal ends it".
-    pub(crate) fn refuse(self, code: u8, out: &mut [u8], at: usize) -> Told
-        requires { ⌜ at + lineRoom ≤ length (now out) ⌝ }
-        ensures { λ r. ⌜ Tells lineRoom (refusing self code) at (now (out .entry)) r (now (out .exit)) ⌝ }
+    pub(crate) fn refuse(self, code: u8, out: &mut [u8]) -> Told
+        ensures { λ r. ⌜ Tells lineRoom (refusing self code) (now (out .entry)) r (now (out .exit)) ⌝ }
     {
-        let end = put_refused(out, at, code, self.line);
+        let len = put_refused(out, code, self.line);
         Told {
             run: self.over(),
-            at: end,
+            len,
         }
     }
 }

@@ -45,18 +45,18 @@ impl Run {
 
 // The run that a reading of the settings begins; a refusal of them ends it.
 fn begun(journal: bool, read: Reading, out: &mut [u8]) -> Told
-    requires { ⌜ (read .line ≤ lines + 1) × (lineRoom ≤ length (now out)) ⌝ }
-    ensures { λ r. ⌜ Tells lineRoom (begunBy journal read) 0 (now (out .entry)) r (now (out .exit)) ⌝ }
+    requires { ⌜ read .line ≤ lines + 1 ⌝ }
+    ensures { λ r. ⌜ Tells lineRoom (begunBy journal read) (now (out .entry)) r (now (out .exit)) ⌝ }
 {
     let code = read.code;
     if code == 0 {
         let found = read.settings;
         return Told {
             run: Run::start(journal, 1, first_loop(journal, found)),
-            at: 0,
+            len: 0,
         };
     }
-    Run::start(journal, read.line as u32, Numbered::blank()).refuse(code, out, 0)
+    Run::start(journal, read.line as u32, Numbered::blank()).refuse(code, out)
 }
 
 // A run from the settings text, over a file of samples or of deliveries.
@@ -77,6 +77,6 @@ pub fn begin(journal: bool, settings: &[u8], out: &mut [u8]) -> Ran
     Ran {
         done: true,
         run,
-        len: told.at,
+        len: told.len,
     }
 }

@@ -5,6 +5,7 @@ pub mod Signs
 pub mod Decimals
 pub mod Shows
 pub mod Stores
+pub mod Puts
 pub mod Rows
 pub mod Texts
 pub mod Longest

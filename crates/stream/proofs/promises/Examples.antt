@@ -17,7 +17,7 @@ use Rattle.text.specs.Decimal.{isSize, hasMinus, unsigned, sizeOf, isDecimal, n
 use Rattle.text.specs.Reader.{readText}
 use Rattle.text.proofs.SettingsC.{textC, c-read}
 use Rattle.stream.specs.Run.{refusedLine, keeping}
-use Rattle.stream.specs.Oven.{byAnswer, bySample, sampleLine}
+use Rattle.answer.specs.Oven.{byAnswer, bySample, sampleLine}
 use Rattle.stream.specs.Feed.{judging, byteOf, finishing}
 use Rattle.stream.specs.Start.{firstLoop, begunBy, runOver, outputOf}
 

@@ -15,10 +15,12 @@ use Rattle.text.specs.declared.decimal.Decimal.the-variants.{Wrong}
 use Rattle.text.specs.Decimal.{mostDigits, isSize, hasMinus, unsigned, decimalOf}
 use Rattle.text.specs.Reader.{readText}
 use Rattle.text.proofs.Digits.{sized, no-size}
+use Rattle.answer.specs.Verdict.{Verdict, refused}
+use Rattle.answer.specs.Oven.{byDecimal, sampleLine}
+use Rattle.answer.specs.Judge.{judgedBy}
 use Rattle.stream.specs.declared.run.Run.{Run}
-use Rattle.stream.specs.Run.{Step, Judged, refused, answered, lineMost, refusedLine, overOf, following, nextOf, lineStep}
-use Rattle.stream.specs.Feed.{judgedBy, after, written, plain, grownOf, lineOf, finishing}
-use Rattle.stream.specs.Oven.{byDecimal, sampleLine}
+use Rattle.stream.specs.Run.{Step, lineMost, refusedLine, overOf, following, nextOf, lineStep}
+use Rattle.stream.specs.Feed.{after, written, plain, grownOf, lineOf, finishing}
 use Rattle.stream.specs.Start.{firstLoop, startOf, begunBy, runOver, outputOf}
 use Rattle.stream.proofs.promises.Cut.{cut-after, cut-written}
 use Rattle.stream.proofs.Line.{over-passing, grown-word, part-passing, line-passing}
@@ -35,13 +37,12 @@ fileOf [] rest = rest
 fileOf (w ∷ ws) rest = w ++ (10 ∷ fileOf ws rest)
 
 -- a line of more than 80 bytes is longer than any well-formed one
-abbrev pub judgedLine : Bool → Numbered → List ℕ → Judged
-judgedLine journal l w = cond (ltb lineMost (length w)) (refused 14) (judgedBy journal l w)
+abbrev pub judgedLine : Bool → Numbered → List ℕ → Verdict
+judgedLine journal l w = cond (ltb lineMost (length w)) (refused l 14) (judgedBy journal l w)
 
 -- "The first refusal ends it": what is written of line n, where next says what the lines after it lead to
-abbrev pub toldBy : ℕ → (Numbered → List ℕ) → Judged → List ℕ
-toldBy n next (refused code) = refusedLine code n
-toldBy n next (answered l text) = text ++ next l
+abbrev pub toldBy : ℕ → (Numbered → List ℕ) → Verdict → List ℕ
+toldBy n next v = cond (eqb (v .code) 0) (v .text ++ next (v .state)) (refusedLine (v .code) n)
 
 -- "or a last one without its line feed, is 14"
 abbrev pub restTold : ℕ → List ℕ → List ℕ
@@ -110,13 +111,16 @@ next-ready r l g = record { going = g .going; none = refl; room = refl }
 
 module _ (rest : List ℕ) (p : plain rest ≡ true) where
   -- what a judged line leads to, where the lines after it are told as next says
-  line-told : (r : Run) (ws : List (List ℕ)) (j : Judged) →
+  line-told : (r : Run) (ws : List (List ℕ)) (v : Verdict) →
       ((l : Numbered) → runOver (nextOf r l) (fileOf ws rest) ≡ told (r .journal) l (following (r .line)) ws rest) →
-      lineStep r j .text ++ runOver (lineStep r j .run) (fileOf ws rest)
-      ≡ toldBy (r .line) (λ (l : Numbered). told (r .journal) l (following (r .line)) ws rest) j
-  line-told r ws (refused code) f =
-      ap (λ (x : List ℕ). refusedLine code (r .line) ++ x) (over-quiet (overOf r) (fileOf ws rest) refl) ∙ append-nil (refusedLine code (r .line))
-  line-told r ws (answered l text) f = ap (λ (x : List ℕ). text ++ x) (f l)
+      lineStep r v .text ++ runOver (lineStep r v .run) (fileOf ws rest)
+      ≡ toldBy (r .line) (λ (l : Numbered). told (r .journal) l (following (r .line)) ws rest) v
+  line-told r ws v f =
+      let s = fileOf ws rest in
+      let t = refusedLine (v .code) (r .line) in
+      by-test (eqb (v .code) 0)
+      (λ e. ap (λ (x : Step). x .text ++ runOver (x .run) s) (cond-yes _ _ e) ∙ ap (λ (x : List ℕ). v .text ++ x) (f (v .state)) ∙ sym (cond-yes _ _ e))
+      (λ e. ap (λ (x : Step). x .text ++ runOver (x .run) s) (cond-no _ _ e) ∙ ap (λ (x : List ℕ). t ++ x) (over-quiet (overOf r) s refl) ∙ append-nil t ∙ sym (cond-no _ _ e))
 
   -- from the start of any line
   pub lines-told : (r : Run) (ws : List (List ℕ)) → Ready r → allPlain ws ≡ true →

@@ -5,7 +5,7 @@ use denote.Ref.{now}
 use Rattle.text.specs.Decimal.{shown}
 use Rattle.text.proofs.Shows.{shown-room}
 use Rattle.stream.specs.Run.{refusedWord, refusedLine}
-use Rattle.stream.proofs.Puts.{Puts, puts-none, puts-more, puts-all, code-room}
+use Rattle.text.proofs.Puts.{Puts, puts-none, puts-more, puts-all, code-room}
 use native.Mathlib.Omega.{arith}
 use borrow.Author.Needs.{needs}
 use Rattle.stream.proofs.run.put_refused.Statement.{statement}
@@ -17,12 +17,6 @@ slice-aggregate-put c = search needs
 put-requires : tie.Need-put-requires
 put-requires c κs = search needs
 
-add-space : tie.Need-add-space
-add-space c = search needs
-
-add-put-unsigned : tie.Need-add-put-unsigned
-add-put-unsigned c = search needs
-
 put-unsigned-requires : tie.Need-put-unsigned-requires
 put-unsigned-requires c κs = search needs
 
@@ -33,8 +27,8 @@ few c = let s = c .before .before .before .before .before .before .before .befor
 few-2 : (c : tie.After-put-unsigned2) → c .put-unsigned2 .result ≤ 10
 few-2 c = let s = c .before .before .before .before .before .before .before .before .before .before .before .before .before .before .before .before .before in rw (c .put-unsigned2 .ensures .0) (shown-room (s .args .line) (s .fits .line .fits))
 
-add-space-2 : tie.Need-add-space-2
-add-space-2 c = let a = few (c .before .before) in omega arith
+add-space : tie.Need-add-space
+add-space c = let a = few (c .before .before) in omega arith
 
 slice-aggregate-put-2 : tie.Need-slice-aggregate-put-2
 slice-aggregate-put-2 c = search needs
@@ -45,8 +39,8 @@ put-requires-2 c κs = search needs
 add-end : tie.Need-add-end
 add-end c = let a = few (c .before .before .before .before .before .before .before) in omega arith
 
-add-put-unsigned-2 : tie.Need-add-put-unsigned-2
-add-put-unsigned-2 c = let a = few (c .before .before .before .before .before .before .before .before) in omega arith
+add-put-unsigned : tie.Need-add-put-unsigned
+add-put-unsigned c = let a = few (c .before .before .before .before .before .before .before .before) in omega arith
 
 put-unsigned-requires-2 : tie.Need-put-unsigned-requires-2
 put-unsigned-requires-2 c κs = search needs
@@ -75,15 +69,15 @@ returns c =
     let u1 = p2 .before .before .before .before .before in
     let p1 = u1 .before .before .before .before in
     let s = p1 .before .before .before .before in
-    let a : Puts (now (s .args .out)) (s .args .at) refusedWord _ (s .args .at + 8) = puts-more puts-none refusedWord (p1 .put .ensures) refl in
-    let b = puts-more a (shown (s .args .code)) (u1 .put-unsigned .ensures .1) (ap (λ (n : ℕ). s .args .at + 8 + n) (u1 .put-unsigned .ensures .0)) in
+    let a : Puts (now (s .args .out)) 0 refusedWord _ 8 = puts-more puts-none refusedWord (p1 .put .ensures) refl in
+    let b = puts-more a (shown (s .args .code)) (u1 .put-unsigned .ensures .1) (ap (λ (n : ℕ). 8 + n) (u1 .put-unsigned .ensures .0)) in
     let d = puts-more b (32 ∷ []) (p2 .put2 .ensures) refl in
-    let e = puts-more d (shown (s .args .line)) (u2 .put-unsigned2 .ensures .1) (ap (λ (n : ℕ). s .args .at + 8 + u1 .put-unsigned .result + 1 + n) (u2 .put-unsigned2 .ensures .0)) in
+    let e = puts-more d (shown (s .args .line)) (u2 .put-unsigned2 .ensures .1) (ap (λ (n : ℕ). 8 + u1 .put-unsigned .result + 1 + n) (u2 .put-unsigned2 .ensures .0)) in
     let f = puts-more e (10 ∷ []) (p3 .put3 .ensures) refl in
     let g = puts-all f (refusedLine (s .args .code) (s .args .line)) (simp append-assoc) in
     let x = few u1 in
     let y = few-2 u2 in
-    ((g .0, omega arith), g .1)
+    ((omega (arith, g .0), omega arith), g .1)
 
 pub put-refused-spec : {M : Type 1} → statement M
 put-refused-spec =
@@ -91,14 +85,12 @@ put-refused-spec =
     (tie.spec
     slice-aggregate-put
     put-requires
-    add-space
-    add-put-unsigned
     put-unsigned-requires
-    add-space-2
+    add-space
     slice-aggregate-put-2
     put-requires-2
     add-end
-    add-put-unsigned-2
+    add-put-unsigned
     put-unsigned-requires-2
     add-end-2
     slice-aggregate-put-3

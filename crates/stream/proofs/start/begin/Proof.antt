@@ -32,7 +32,7 @@ read-settings-requires c κs = search needs
 begun-requires : tie.Need-begun-requires
 begun-requires c κs =
     let r = c .before in
-    (rw (r .read-settings .ensures) (line-few (now (r .before .before .before .before .args .settings))), r .before .if1 .left)
+    rw (r .read-settings .ensures) (line-few (now (r .before .before .before .before .args .settings)))
 
 same-length : tie.Need-same-length
 same-length c = search needs

@@ -27,7 +27,7 @@ returns c =
     step-by {s = t} (cond-yes _ _ (eq-eqb _ _ (i .if1 .taken))) (step-quiet (c .start .ensures ∙ ap (startOf j 1) (c .before .first-loop .ensures)))
 
 cast-start : tie.Need-cast-start
-cast-start c = record { fits = omega (arith, c .before .before .before .pre .0) }
+cast-start c = record { fits = omega (arith, c .before .before .before .pre) }
 
 blank-requires : tie.Need-blank-requires
 blank-requires c κs = search needs

@@ -7,7 +7,7 @@ use lib.ListN.{length}
 use lib.Seq.{length-sets, length-take-le}
 use Rattle.stream.specs.declared.run.Run.{Run}
 use Rattle.stream.specs.Run.{lineStep, wordOf}
-use Rattle.stream.specs.Feed.{judgedBy}
+use Rattle.answer.specs.Judge.{judgedBy}
 use Rattle.stream.proofs.Steps.{step-by}
 use Rattle.stream.proofs.Line.{grown-word}
 use borrow.Author.Needs.{needs}
@@ -49,7 +49,7 @@ slice-aggregate-judge : tie.Need-slice-aggregate-judge
 slice-aggregate-judge c = sym (length-take-le _ _ (joined (c .before .before)))
 
 judge-requires-2 : tie.Need-judge-requires-2
-judge-requires-2 c κs = (omega (arith, slice-aggregate-judge (c .before), ap (λ (x : Run). x .len) (c .before .before .before .grown .ensures)), search needs)
+judge-requires-2 c κs = omega (arith, slice-aggregate-judge (c .before), ap (λ (x : Run). x .len) (c .before .before .before .grown .ensures))
 
 same-length-2 : tie.Need-same-length-2
 same-length-2 c = search needs

@@ -35,7 +35,7 @@ short : (c : tie.Else2) → ltb lineMost (c .before .before .before .before .bef
 short c = so (c .before .too-long .ensures) (c .if2 .left)
 
 line-requires : tie.Need-line-requires
-line-requires c κs = (ltb-false lineMost _ (short (c .before .before)), search needs)
+line-requires c κs = ltb-false lineMost _ (short (c .before .before))
 
 same-length-2 : tie.Need-same-length-2
 same-length-2 c = search needs

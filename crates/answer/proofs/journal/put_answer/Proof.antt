@@ -7,12 +7,12 @@ use lib.Seq.{sets}
 use mir.Facts.{toZ-ofZ}
 use Rattle.text.specs.Decimal.{shown, decimal}
 use Rattle.text.proofs.Shows.{shown-room, decimal-room}
-use Rattle.stream.specs.Journal.{codeKey, outputKey, lastKey, answerText}
-use Rattle.stream.proofs.Puts.{Puts, puts-none, puts-more, puts-all, code-room}
+use Rattle.answer.specs.Journal.{codeKey, outputKey, lastKey, answerText}
+use Rattle.text.proofs.Puts.{Puts, puts-none, puts-more, puts-all, code-room}
 use native.Mathlib.Omega.{arith}
 use borrow.Author.Needs.{needs}
-use Rattle.stream.proofs.journal.put_answer.Statement.{statement}
-use Rattle.stream.proofs.journal.put_answer.Tie as tie
+use Rattle.answer.proofs.journal.put_answer.Statement.{statement}
+use Rattle.answer.proofs.journal.put_answer.Tie as tie
 
 slice-aggregate-put : tie.Need-slice-aggregate-put
 slice-aggregate-put c = search needs
@@ -33,7 +33,7 @@ put-unsigned-requires c κs = search needs
 few : (c : tie.After-put-unsigned) → c .put-unsigned .result ≤ 3
 few c = let s = c .before .before .before .before .before .before .before .before in rw (c .put-unsigned .ensures .0) (code-room (s .args .code) (s .fits .code .fits))
 
--- the buffer has room for all of it
+-- no place passes 64 bits
 all-fit : (c : tie.After-put-unsigned) → c .before .before .before .before .before .before .before .before .args .at + 45 < 2 ^ 64
 all-fit c = omega arith
 

@@ -11,7 +11,7 @@ use Rattle.delivery_line.specs.declared.Delivery.{Delivery}
 use Rattle.delivery_line.specs.declared.Delivery.the-variants.{Is, Wrong}
 use Rattle.delivery_line.specs.Line.{deliveryOf}
 use Rattle.text.specs.Decimal.{shown, decimal}
-use Rattle.stream.specs.Run.{Judged, refused, answered}
+use Rattle.answer.specs.Verdict.{Verdict, refused, answered}
 
 abbrev pub codeKey : List ℕ
 codeKey = bytes " code="
@@ -26,13 +26,13 @@ unfoldable pub answerText : ℕ → ℤ → ℕ → List ℕ
 answerText code output last = codeKey ++ (shown code ++ (outputKey ++ (decimal output ++ (lastKey ++ (shown last ++ bytes "\n")))))
 
 -- a delivery that the loop refuses is answered with its code, and the run goes on
-abbrev pub journalAnswer : List ℕ → Delivered → Judged
+abbrev pub journalAnswer : List ℕ → Delivered → Verdict
 journalAnswer w d = answered (d .state) (w ++ answerText (d .code) (d .output) (d .number))
 
-abbrev pub byDelivery : Numbered → List ℕ → Delivery → Judged
-byDelivery l w Wrong = refused 14
+abbrev pub byDelivery : Numbered → List ℕ → Delivery → Verdict
+byDelivery l w Wrong = refused l 14
 byDelivery l w (Is n c) = journalAnswer w (deliveredOf l n c)
 
 -- a malformed line is 14
-unfoldable pub journalLine : Numbered → List ℕ → Judged
+unfoldable pub journalLine : Numbered → List ℕ → Verdict
 journalLine l w = byDelivery l w (deliveryOf w)

@@ -13,7 +13,7 @@ use Rattle.text.specs.declared.decimal.Decimal.{Decimal}
 use Rattle.text.specs.declared.decimal.Decimal.the-variants.{Is, Wrong}
 use Rattle.text.specs.Decimal.{decimal, decimalOf}
 use Rattle.settings.specs.Words.{bytes}
-use Rattle.stream.specs.Run.{Judged, refused, answered}
+use Rattle.answer.specs.Verdict.{Verdict, refused, answered}
 
 -- "delivers [..] the samples from number 2 on": each under the number after the last
 abbrev pub sampledOf : Numbered → ℤ → Delivered
@@ -24,18 +24,18 @@ abbrev pub outputLine : ℤ → List ℕ
 outputLine output = decimal output ++ bytes "\n"
 
 -- an accepted sample is answered, a refused one ends the run
-unfoldable pub byAnswer : Delivered → Judged
-byAnswer d = cond (eqb (d .code) 0) (answered (d .state) (outputLine (d .output))) (refused (d .code))
+unfoldable pub byAnswer : Delivered → Verdict
+byAnswer d = cond (eqb (d .code) 0) (answered (d .state) (outputLine (d .output))) (refused (d .state) (d .code))
 
 -- "else a sample past the last number is 13, and one out of range 4"
-unfoldable pub bySample : Numbered → ℤ → Judged
-bySample l pv = cond (eqb (l .memory .number) lastNumber) (refused 13) (byAnswer (sampledOf l pv))
+unfoldable pub bySample : Numbered → ℤ → Verdict
+bySample l pv = cond (eqb (l .memory .number) lastNumber) (refused l 13) (byAnswer (sampledOf l pv))
 
 -- "A malformed sample line [..] is 14"
-abbrev pub byDecimal : Numbered → Decimal → Judged
+abbrev pub byDecimal : Numbered → Decimal → Verdict
 byDecimal l (Is pv) = bySample l pv
-byDecimal l Wrong = refused 14
+byDecimal l Wrong = refused l 14
 
 -- "The sample file has the settings' decimal form"
-unfoldable pub sampleLine : Numbered → List ℕ → Judged
+unfoldable pub sampleLine : Numbered → List ℕ → Verdict
 sampleLine l w = byDecimal l (decimalOf w)

@@ -1,0 +1,2 @@
+mod Verdicts
+pub mod promises

@@ -1,0 +1,2 @@
+-- The theorems of a line.
+pub mod Verdict

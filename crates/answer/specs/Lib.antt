@@ -1,0 +1,4 @@
+pub mod Verdict
+pub mod Oven
+pub mod Journal
+pub mod Judge
