@@ -5,9 +5,9 @@ use mathlib.Core.List.{List, [], _++_}
 use native.Mathlib.Omega.{arith}
 use lib.ListN.{length, length-append}
 use lib.Seq.{sets}
-use Rattle.text.specs.Decimal.{shown}
-use Rattle.text.proofs.Decimals.{shown-form}
-use Rattle.text.proofs.Stores.{sets-append}
+use Rattle.word.specs.Decimal.{shown}
+use Rattle.word.proofs.Decimals.{shown-form}
+use Rattle.word.proofs.Stores.{sets-append}
 
 -- the list l is l₀ with text put from place at on, and n is the place after it
 pub record Puts (l₀ : List ℕ) (at : ℕ) (text l : List ℕ) (n : ℕ) : Type 0 where

@@ -8,9 +8,9 @@ use crate::run::Told;
 use command::Command;
 use delivery::numbered::Delivered;
 use delivery::numbered::Numbered;
-use text::buffer::put;
-use text::buffer::put_signed;
-use text::decimal::Decimal;
+use word::buffer::put;
+use word::buffer::put_signed;
+use word::decimal::Decimal;
 
 impl Run {
     // "writes each output as a decimal and a line feed"

@@ -16,9 +16,9 @@ use Rattle.delivery.specs.Numbered.{validOf}
 use Rattle.delivery.proofs.promises.Delivery.{made-valid, again-valid}
 use Rattle.text.specs.Reader.{readText}
 use borrow.Author.Tests.{eq-eqb}
-use Rattle.text.specs.declared.decimal.Decimal.{Decimal}
-use Rattle.text.specs.declared.decimal.Decimal.the-variants as decimal
-use Rattle.text.specs.Decimal.{decimalOf}
+use Rattle.word.specs.declared.decimal.Decimal.{Decimal}
+use Rattle.word.specs.declared.decimal.Decimal.the-variants as decimal
+use Rattle.word.specs.Decimal.{decimalOf}
 use Rattle.stream.specs.declared.run.Run.{Run}
 use Rattle.stream.specs.Run.{Step, Judged, refused, answered, lineMost, wordOf, lineStep, keeping}
 use Rattle.stream.specs.Oven.{sampledOf, byAnswer, bySample, byDecimal, sampleLine}

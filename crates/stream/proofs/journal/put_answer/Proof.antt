@@ -5,8 +5,8 @@ use denote.Ref.{now}
 use lib.ListN.{length}
 use lib.Seq.{sets}
 use mir.Facts.{toZ-ofZ}
-use Rattle.text.specs.Decimal.{shown, decimal}
-use Rattle.text.proofs.Shows.{shown-room, decimal-room}
+use Rattle.word.specs.Decimal.{shown, decimal}
+use Rattle.word.proofs.Shows.{shown-room, decimal-room}
 use Rattle.stream.specs.Journal.{codeKey, outputKey, lastKey, answerText}
 use Rattle.stream.proofs.Puts.{Puts, puts-none, puts-more, puts-all, code-room}
 use native.Mathlib.Omega.{arith}

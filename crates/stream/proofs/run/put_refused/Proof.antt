@@ -2,8 +2,8 @@ use Prim.Native.Nat.{ℕ, _+_, _≤_}
 use mathlib.Core.Path.{refl, ap}
 use mathlib.Core.List.{[], _∷_, append-assoc}
 use denote.Ref.{now}
-use Rattle.text.specs.Decimal.{shown}
-use Rattle.text.proofs.Shows.{shown-room}
+use Rattle.word.specs.Decimal.{shown}
+use Rattle.word.proofs.Shows.{shown-room}
 use Rattle.stream.specs.Run.{refusedWord, refusedLine}
 use Rattle.stream.proofs.Puts.{Puts, puts-none, puts-more, puts-all, code-room}
 use native.Mathlib.Omega.{arith}

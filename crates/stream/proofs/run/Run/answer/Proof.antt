@@ -5,8 +5,8 @@ use denote.Ref.{now}
 use lib.ListN.{length}
 use lib.Seq.{sets}
 use mir.Facts.{toZ-ofZ}
-use Rattle.text.specs.Decimal.{decimal}
-use Rattle.text.proofs.Shows.{decimal-room}
+use Rattle.word.specs.Decimal.{decimal}
+use Rattle.word.proofs.Shows.{decimal-room}
 use Rattle.stream.specs.Run.{answered, lineStep}
 use Rattle.stream.specs.Oven.{outputLine}
 use Rattle.stream.proofs.Steps.{step-made}

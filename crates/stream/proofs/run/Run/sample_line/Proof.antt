@@ -2,7 +2,7 @@ use mir.Syntax.{w32}
 use mir.Val.{SFits}
 use mir.Facts.{toZ-ofZ}
 use mathlib.Core.Path.{sym, ap, _∙_}
-use Rattle.text.specs.declared.decimal.Decimal.{Decimal}
+use Rattle.word.specs.declared.decimal.Decimal.{Decimal}
 use Rattle.stream.specs.Run.{lineStep}
 use Rattle.stream.specs.Oven.{byDecimal, sampleLine}
 use Rattle.stream.proofs.Steps.{step-by}
