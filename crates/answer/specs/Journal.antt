@@ -3,14 +3,14 @@
 use Prim.Native.Nat.{ℕ}
 use mathlib.Core.List.{List, _++_}
 use lib.IntN.{ℤ}
-use Rattle.settings.specs.Words.{bytes}
+use Rattle.whole.specs.Words.{bytes}
 use Rattle.delivery.specs.declared.numbered.Numbered.{Numbered}
 use Rattle.delivery.specs.declared.numbered.Delivered.{Delivered}
 use Rattle.delivery.specs.Numbered.{deliveredOf}
 use Rattle.delivery_line.specs.declared.Delivery.{Delivery}
 use Rattle.delivery_line.specs.declared.Delivery.the-variants.{Is, Wrong}
 use Rattle.delivery_line.specs.Line.{deliveryOf}
-use Rattle.text.specs.Decimal.{shown, decimal}
+use Rattle.word.specs.Decimal.{shown, decimal}
 use Rattle.answer.specs.Verdict.{Verdict, refused, answered}
 
 abbrev pub codeKey : List ℕ

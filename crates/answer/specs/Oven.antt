@@ -9,10 +9,10 @@ use Rattle.delivery.specs.declared.numbered.Numbered.{Numbered}
 use Rattle.delivery.specs.declared.numbered.Delivered.{Delivered}
 use Rattle.delivery.specs.Memory.{lastNumber}
 use Rattle.delivery.specs.Numbered.{deliveredOf}
-use Rattle.text.specs.declared.decimal.Decimal.{Decimal}
-use Rattle.text.specs.declared.decimal.Decimal.the-variants.{Is, Wrong}
-use Rattle.text.specs.Decimal.{decimal, decimalOf}
-use Rattle.settings.specs.Words.{bytes}
+use Rattle.word.specs.declared.decimal.Decimal.{Decimal}
+use Rattle.word.specs.declared.decimal.Decimal.the-variants.{Is, Wrong}
+use Rattle.word.specs.Decimal.{decimal, decimalOf}
+use Rattle.whole.specs.Words.{bytes}
 use Rattle.answer.specs.Verdict.{Verdict, refused, answered}
 
 -- "delivers [..] the samples from number 2 on": each under the number after the last

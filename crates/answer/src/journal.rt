@@ -11,9 +11,9 @@ use delivery::numbered::Delivered;
 use delivery::numbered::Numbered;
 use delivery_line::Delivery;
 use delivery_line::parse;
-use text::buffer::put;
-use text::buffer::put_signed;
-use text::buffer::put_unsigned;
+use word::buffer::put;
+use word::buffer::put_signed;
+use word::buffer::put_unsigned;
 
 // ` code=C output=U last=L` and a line feed, from place at on; the place after it.
 fn put_answer(out: &mut [u8], at: usize, code: u8, output: i32, last: u32) -> usize

@@ -7,9 +7,9 @@ use crate::verdict::refused;
 use command::Command;
 use delivery::numbered::Delivered;
 use delivery::numbered::Numbered;
-use text::buffer::put;
-use text::buffer::put_signed;
-use text::decimal::Decimal;
+use word::buffer::put;
+use word::buffer::put_signed;
+use word::decimal::Decimal;
 
 // "writes each output as a decimal and a line feed"
 fn answer(state: Numbered, output: i32, out: &mut [u8]) -> Judged

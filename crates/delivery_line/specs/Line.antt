@@ -6,14 +6,14 @@ use lib.Dec.{eqb}
 use lib.IntN.{ℤ, pos}
 use lib.ListN.{length, take, drop}
 use Rattle.whole.specs.Numbers.{eqZ}
-use Rattle.settings.specs.Words.{bytes}
+use Rattle.whole.specs.Words.{bytes}
 use Rattle.command.specs.declared.Command.the-variants.{Sample, Hold, Put, Automatic, Target, Set}
-use Rattle.text.specs.declared.decimal.Decimal.{Decimal}
-use Rattle.text.specs.declared.decimal.Decimal.the-variants as decimal
-use Rattle.text.specs.declared.number.Number.{Number}
-use Rattle.text.specs.declared.number.Number.the-variants as number
-use Rattle.text.specs.Number.{numberIn, signedIn}
-use Rattle.text.specs.Reader.{endAt, begins}
+use Rattle.word.specs.declared.decimal.Decimal.{Decimal}
+use Rattle.word.specs.declared.decimal.Decimal.the-variants as decimal
+use Rattle.word.specs.declared.number.Number.{Number}
+use Rattle.word.specs.declared.number.Number.the-variants as number
+use Rattle.word.specs.Number.{numberIn, signedIn}
+use Rattle.word.specs.End.{endAt, begins}
 use Rattle.delivery_line.specs.declared.Asked.{Asked}
 use Rattle.delivery_line.specs.declared.Asked.the-variants as asked
 use Rattle.delivery_line.specs.declared.Delivery.{Delivery}

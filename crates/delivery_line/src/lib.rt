@@ -2,11 +2,11 @@
 ghost use mathlib.Core.Path.{_≡_};
 ghost use Rattle.delivery_line.specs.Line.{wordIn, restIn, fieldIn, sameWord, commandOf, asking, deliveryOf};
 use command::Command;
-use text::decimal::Decimal;
-use text::number::Number;
-use text::number::signed;
-use text::reader::begins;
-use text::reader::end_at;
+use word::decimal::Decimal;
+use word::end::begins;
+use word::end::end_at;
+use word::number::Number;
+use word::number::signed;
 
 // What a line asks: a command under a number, or it is of wrong form.
 pub enum Delivery {

@@ -1,22 +1,11 @@
--- Laws of lists by place.
+-- Laws of lists by place: blocks, and numbers that count up.
 use Prim.Native.Nat.{ℕ, zero, suc, _+_, _*_, _<_, _≤_}
-use mathlib.Core.Path.{_≡_, refl, _∙_}
+use mathlib.Core.Path.{_≡_, _∙_}
 use mathlib.Core.List.{List, [], _∷_}
-use native.Mathlib.Numerals.{add-one}
 use native.Mathlib.Omega.{arith}
-use lib.ListN.{length, getD, drop, length-append, List·getD-append}
-use lib.Seq.{drop-cons, getD-append-add}
+use lib.ListN.{length, getD, length-append, List·getD-append}
+use lib.Seq.{getD-append-add}
 use Rattle.settings.specs.Table.{each, numbersFrom}
-
--- a place that is there is read whatever stands past the end
-pub getD-any : {A : Type 0} (l : List A) (i : ℕ) (d e : A) → i < length l → getD l i d ≡ getD l i e
-getD-any [] i d e h = absurd (omega arith)
-getD-any (x ∷ xs) zero d e h = refl
-getD-any (x ∷ xs) (suc i) d e h = getD-any xs i d e (omega arith)
-
--- what is left at a place is the element there and what is left after it
-pub next : {A : Type 0} (s : List A) (i : ℕ) (d : A) → i < length s → drop i s ≡ getD s i d ∷ drop (i + 1) s
-next s i d h = rw (add-one, drop-cons s i d)
 
 -- a number that is at least n, and is not n
 pub past : {n i : ℕ} → n ≤ i → (i ≡ n → ⊥) → suc n ≤ i

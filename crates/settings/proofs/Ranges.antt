@@ -17,7 +17,7 @@ use Rattle.settings.specs.declared.Settings.{Settings}
 use Rattle.settings.specs.declared.table.Row.{Row}
 use Rattle.settings.specs.Table.{reach, fastest, gain, share, headRows, gainRows, table, sets, heads, keys, lines, setRows, each, numbersFrom, rows, noRow, inRow}
 use Rattle.settings.specs.Settings.{noGains, gainsAt, gainValues, headValues, valuesOf, allIn, inTable}
-use Rattle.settings.proofs.Lists.{next}
+use Rattle.whole.proofs.Lists.{next}
 use Rattle.settings.proofs.Rows.{rows-long}
 
 -- ---- the test of one value after another

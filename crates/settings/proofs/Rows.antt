@@ -16,7 +16,8 @@ use Rattle.settings.specs.declared.Settings.{Settings}
 use Rattle.settings.specs.declared.table.Row.{Row}
 use Rattle.settings.specs.Table.{longestKey, headRows, gainRows, table, sets, heads, keys, lines, numbered, setRows, each, numbersFrom, rows, noRow}
 use Rattle.settings.specs.Settings.{noGains, gainsAt, gainsFrom, setsFrom, gainValues, headValues, valuesOf}
-use Rattle.settings.proofs.Lists.{getD-any, each-at, each-long, numbers-at}
+use Rattle.whole.proofs.Lists.{getD-any}
+use Rattle.settings.proofs.Lists.{each-at, each-long, numbers-at}
 
 -- ---- rows
 

@@ -1,4 +1,3 @@
-pub mod Words
 pub mod Table
 pub mod Settings
 pub mod SettingsC

@@ -8,7 +8,7 @@ use lib.Seq.{sets as puts}
 use lib.IntN.{ℤ, pos, negℤ}
 use Rattle.whole.specs.Numbers.{inside}
 use Rattle.settings.specs.declared.table.Row.{Row}
-use Rattle.settings.specs.Words.{bytes}
+use Rattle.whole.specs.Words.{bytes}
 
 -- ---- the ends of the ranges
 

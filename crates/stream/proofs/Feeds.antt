@@ -8,8 +8,8 @@ use lib.Dec.{eqb}
 use lib.ListN.{length, take, drop}
 use lib.Seq.{take-length}
 use Rattle.whole.proofs.Truth.{and, chosen}
-use Rattle.text.specs.Reader.{endAt, feed}
-use Rattle.text.proofs.Words.{at-byte}
+use Rattle.word.specs.End.{endAt, feed}
+use Rattle.word.proofs.Words.{at-byte}
 use Rattle.stream.specs.Feed.{plain}
 
 pub feed-split : (n : ℕ) (s : List ℕ) → n ≡ endAt feed s → n < length s → s ≡ (take n s ++ (feed ∷ [])) ++ drop (n + 1) s

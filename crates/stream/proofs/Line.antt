@@ -10,7 +10,7 @@ use borrow.Author.Tests.{lt-ltb, le-ltb, ltb-true, ltb-false, not-true}
 use lib.Dec.{eqb, ltb}
 use lib.ListN.{length}
 use Rattle.whole.proofs.Truth.{both, by-test, cond-yes, cond-no}
-use Rattle.text.proofs.Stores.{text-part}
+use Rattle.word.proofs.Stores.{text-part}
 use Rattle.answer.specs.Verdict.{Verdict}
 use Rattle.answer.specs.Judge.{judgedBy}
 use Rattle.stream.specs.declared.run.Run.{Run}

@@ -6,7 +6,7 @@ use mathlib.Core.Bool.{Bool, true, false}
 use native.Mathlib.Omega.{arith}
 use lib.ListN.{length, drop, length-append}
 use lib.Seq.{sets, length-take-le}
-use Rattle.text.proofs.Stores.{sets-append, front-stored}
+use Rattle.word.proofs.Stores.{sets-append, front-stored}
 use Rattle.stream.specs.declared.run.Run.{Run}
 use Rattle.stream.specs.declared.run.Told.{Told}
 use Rattle.stream.specs.Run.{Step, toldOf, lineRoom, Tells}

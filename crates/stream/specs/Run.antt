@@ -7,9 +7,9 @@ use lib.Dec.{eqb, ltb}
 use lib.ListN.{length, take, set, replicate}
 use lib.Seq.{sets}
 use Rattle.delivery.specs.declared.numbered.Numbered.{Numbered}
-use Rattle.text.specs.Decimal.{shown}
-use Rattle.text.specs.Number.{highest}
-use Rattle.settings.specs.Words.{bytes}
+use Rattle.word.specs.Decimal.{shown}
+use Rattle.word.specs.Number.{highest}
+use Rattle.whole.specs.Words.{bytes}
 use Rattle.answer.specs.Verdict.{Verdict}
 use Rattle.stream.specs.declared.run.Run.{Run}
 use Rattle.stream.specs.declared.run.Told.{Told}

@@ -9,8 +9,8 @@ ghost use Rattle.stream.specs.Feed.{grownOf, lineOf, passing, fedOf, out
 use crate::run::Run;
 use crate::run::Told;
 use answer::judge::judge;
-use text::buffer::put;
-use text::reader::end_at;
+use word::buffer::put;
+use word::end::end_at;
 
 // What comes back: whether the lent buffer had room, the run, and how many bytes from the buffer's first on are to be
 // written. Without room nothing was done.

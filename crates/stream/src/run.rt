@@ -5,8 +5,8 @@ ghost use lib.ListN.{length};
 ghost use lib.Seq.{sets};
 ghost use Rattle.stream.specs.Run.{lineRoom, refusedLine, refusing, following, overOf, nextOf, Tells};
 use delivery::numbered::Numbered;
-use text::buffer::put;
-use text::buffer::put_unsigned;
+use word::buffer::put;
+use word::buffer::put_unsigned;
 
 // A run that is under way: the first len of the bytes are those of the line under way, whose number in the file is line.
 // The lines are deliveries for the journal, else samples. Once ended, nothing more is written.

@@ -1,11 +1,3 @@
-pub mod Lists
-pub mod Words
-pub mod Digits
-pub mod Signs
-pub mod Decimals
-pub mod Shows
-pub mod Stores
-pub mod Puts
 pub mod Rows
 pub mod Texts
 pub mod Longest

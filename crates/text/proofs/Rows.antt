@@ -12,7 +12,7 @@ use Rattle.whole.proofs.Truth.{both, and}
 use Rattle.settings.specs.declared.table.Row.{Row}
 use Rattle.settings.specs.Table.{longestKey, lines, rows, noRow}
 use Rattle.text.specs.Lines.{keyOf, lineOf, linesOf}
-use Rattle.settings.proofs.Lists.{next}
+use Rattle.whole.proofs.Lists.{next}
 use Rattle.settings.proofs.Rows.{rows-long}
 
 abbrev pub all : (Row → Bool) → List Row → Bool

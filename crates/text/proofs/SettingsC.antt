@@ -6,10 +6,10 @@ use lib.IntN.{pos, negsuc}
 use lib.ListN.{length, replicate}
 use Rattle.settings.specs.declared.Gains.{Gains}
 use Rattle.settings.specs.declared.Settings.{Settings}
-use Rattle.settings.specs.Words.{bytes}
+use Rattle.whole.specs.Words.{bytes}
 use Rattle.settings.specs.Table.{gain, share, sets, rows}
 use Rattle.settings.specs.SettingsC.{gainSet, settingsC}
-use Rattle.text.specs.Decimal.{isSize, hasMinus, unsigned, sizeOf, isDecimal, numberOf, shown}
+use Rattle.word.specs.Decimal.{isSize, hasMinus, unsigned, sizeOf, isDecimal, numberOf, shown}
 use Rattle.text.specs.Lines.{textOf, longestText}
 use Rattle.text.specs.Reader.{lineIn, ended, afterLine, wordIn, formed, lineCode, lineValue, readEnd, readText}
 

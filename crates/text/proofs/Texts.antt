@@ -9,28 +9,23 @@ use borrow.Author.Tests.{ltb-true, ltb-false, eq-eqb, ne-eqb, eqb-true, eqb-fals
 use lib.Dec.{ltb, eqb}
 use lib.IntN.{ℤ, pos}
 use lib.ListN.{length, take, drop, length-drop}
-use Rattle.whole.proofs.Truth.{both, never, chosen, by-test, zero-if, zero-then}
+use Rattle.whole.proofs.Truth.{both, chosen, by-test, zero-if, zero-then}
 use Rattle.settings.specs.declared.table.Row.{Row}
 use Rattle.settings.specs.declared.Settings.{Settings}
 use Rattle.settings.specs.Table.{lines, rows, inRow}
 use Rattle.settings.specs.Settings.{settingsOf, ordered}
+use Rattle.word.specs.declared.decimal.Decimal.the-variants.{Is, Wrong}
+use Rattle.word.specs.Decimal.{numberOf, decimalOf}
+use Rattle.word.specs.End.{endAt, feed, begins}
+use Rattle.word.proofs.Words.{part-after}
 use Rattle.text.specs.declared.reader.Line.{Line}
 use Rattle.text.specs.declared.reader.Reading.{Reading}
-use Rattle.text.specs.declared.decimal.Decimal.the-variants.{Is, Wrong}
-use Rattle.text.specs.Decimal.{numberOf, decimalOf}
 use Rattle.text.specs.Lines.{keyOf}
-use Rattle.text.specs.Reader.{endAt, feed, lineIn, ended, begins, wordIn, formed, valueIn, lineValue, lineCode, lineRead, afterLine, refused, readEnd, readFrom, readText}
+use Rattle.text.specs.Reader.{lineIn, ended, wordIn, formed, valueIn, lineValue, lineCode, lineRead, afterLine, refused, readEnd, readFrom, readText}
 use Rattle.settings.proofs.Rows.{rows-long}
-use Rattle.text.proofs.Words.{part-after}
 use Rattle.text.proofs.Rows.{rows-done}
 
 -- ---- one line
-
--- a line that begins with a key is at least as long
-pub begun-long : (k l : List ℕ) → begins k l ≡ true → length k ≤ length l
-begun-long [] l e = omega arith
-begun-long (x ∷ k) [] e = never e
-begun-long (x ∷ k) (b ∷ l) e = omega (arith, begun-long k l (both (eqb b x) (begins k l) e .1))
 
 module _ (r : Row) (l : List ℕ) where
   pub not-begun : begins (keyOf r) l ≡ false → valueIn r l ≡ Wrong

@@ -5,13 +5,12 @@ use mathlib.Core.Bool.{Bool, true, not, _&&_}
 use mathlib.Core.List.{List, [], _∷_, _++_, append-assoc, append-nil}
 use native.Mathlib.Nat.{add-zero}
 use native.Mathlib.Omega.{arith}
-use borrow.Author.Tests.{eqb-true, eq-eqb, ne-eqb, lt-ltb}
-use lib.Dec.{eqb}
+use borrow.Author.Tests.{ne-eqb, lt-ltb}
 use lib.IntN.{ℤ, pos, negsuc, natAbs}
 use lib.ListN.{length, take, drop, length-append, take-append-drop}
 use lib.Signed.{leZ}
 use lib.Seq.{drop-at, length-take-le}
-use Rattle.whole.proofs.Truth.{both, and, never}
+use Rattle.whole.proofs.Truth.{both, and}
 use Rattle.whole.specs.Numbers.{inside}
 use Rattle.whole.proofs.Parts.{zs, inside-yes}
 use Rattle.settings.specs.declared.table.Row.{Row}
@@ -20,13 +19,14 @@ use Rattle.settings.specs.Table.{sets, lines, rows, inRow}
 use Rattle.settings.specs.Settings.{allIn, inTable, settingsRefusal, valuesOf, settingsOf}
 use Rattle.settings.proofs.Rows.{rows-long, values-long}
 use Rattle.settings.proofs.Values.{values-settings, settings-values}
+use Rattle.word.specs.Decimal.{isDigit, allDigits, isDecimal, numberOf, shown, decimal}
+use Rattle.word.specs.End.{endAt, feed, begins}
+use Rattle.word.proofs.Words.{without, without-both, end-without, before-first, after-first, at-byte, begins-self, begins-split}
+use Rattle.word.proofs.Digits.{digit}
+use Rattle.word.proofs.Decimals.{shown-form, decimal-read, read-decimal}
 use Rattle.text.specs.declared.reader.Reading.{Reading}
-use Rattle.text.specs.Decimal.{isDigit, allDigits, isDecimal, numberOf, shown, decimal}
 use Rattle.text.specs.Lines.{keyOf, lineOf, linesOf, textOf}
-use Rattle.text.specs.Reader.{endAt, feed, lineIn, ended, afterLine, begins, wordIn, formed, lineCode, lineValue, refused, readEnd, readFrom, readText}
-use Rattle.text.proofs.Words.{without, without-both, end-without, before-first, after-first, at-byte}
-use Rattle.text.proofs.Digits.{digit}
-use Rattle.text.proofs.Decimals.{shown-form, decimal-read, read-decimal}
+use Rattle.text.specs.Reader.{lineIn, ended, afterLine, wordIn, formed, lineCode, lineValue, refused, readEnd, readFrom, readText}
 use Rattle.text.proofs.Rows.{all, all-take, rows-next}
 use Rattle.text.proofs.Writes.{sound}
 use Rattle.text.proofs.Texts.{line-yes, feed-there, end-yes, end-taken, line-taken, first-taken}
@@ -66,17 +66,6 @@ unfolding lineIn afterLine
 line-split s e = at-byte feed s (feed-there s e)
 
 -- ---- one line
-
-begins-self : (k w : List ℕ) → begins k (k ++ w) ≡ true
-begins-self [] w = refl
-begins-self (b ∷ k) w = and (eq-eqb b b refl) (begins-self k w)
-
-begins-split : (k l : List ℕ) → begins k l ≡ true → l ≡ k ++ drop (length k) l
-begins-split [] l e = refl
-begins-split (x ∷ k) [] e = never e
-begins-split (x ∷ k) (b ∷ l) e =
-    let t = both (eqb b x) (begins k l) e in
-    ap (λ (y : ℕ). y ∷ l) (eqb-true b x (t .0)) ∙ ap (λ (m : List ℕ). x ∷ m) (begins-split k l (t .1))
 
 -- a row that fits the lines: no line feed in its key, and only numbers of at most 7 digits in its range
 abbrev pub lined : Row → Bool

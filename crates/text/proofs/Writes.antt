@@ -1,19 +1,44 @@
 -- Laws of what the writer answers and leaves.
-use Prim.Native.Nat.{ℕ, zero, suc, _<_, _≤_}
+use Prim.Native.Nat.{ℕ, zero, suc, _+_, _<_, _≤_}
 use mathlib.Core.Path.{_≡_, refl}
 use mathlib.Core.Bool.{true, cond}
-use mathlib.Core.List.{List, _++_}
+use mathlib.Core.List.{List, [], _∷_, _++_}
 use native.Mathlib.Omega.{arith}
 use borrow.Author.Tests.{lt-ltb, le-ltb, ltb-false, eq-eqb, ne-eqb}
 use lib.Dec.{ltb, eqb}
-use lib.ListN.{length, drop}
+use lib.IntN.{ℤ}
+use lib.ListN.{length, drop, length-append, length-take}
+use lib.Seq.{sets}
+use mir.Syntax.{w32}
+use mir.Val.{SFits}
 use Rattle.whole.proofs.Truth.{zero-if, zero-else, zero-then}
+use Rattle.settings.specs.declared.table.Row.{Row}
 use Rattle.settings.specs.declared.Settings.{Settings}
+use Rattle.settings.specs.Table.{longestKey}
 use Rattle.settings.specs.Settings.{inTable, ordered, settingsRefusal}
+use Rattle.word.specs.Decimal.{decimalRoom}
+use Rattle.word.specs.End.{feed}
+use Rattle.word.proofs.Shows.{decimal-room}
+use Rattle.word.proofs.Stores.{sets-append}
 use Rattle.text.specs.declared.writer.Written.{Written}
-use Rattle.text.specs.Lines.{textOf, longestText}
+use Rattle.text.specs.Lines.{lineOf, textOf, longestText}
 use Rattle.text.specs.Writer.{writeCode, writtenOf, bufferAfter}
 use Rattle.text.proofs.Longest.{text-long}
+
+-- ---- a line
+
+-- a line of the settings is a key, a decimal and a line feed
+pub line-short : (r : Row) (z : ℤ) → r .1 ≤ longestKey → SFits w32 z → length (lineOf r z) ≤ longestKey + decimalRoom + 1
+line-short r z h f = simp (length-append, length-take) (omega (arith, decimal-room z f))
+
+-- a line, put part by part
+pub line-stored : {l₁ l₂ l₃ : List ℕ} {start end : ℕ} (l₀ : List ℕ) (at : ℕ) (key word : List ℕ) →
+    l₁ ≡ sets l₀ at key → l₂ ≡ sets l₁ start word → l₃ ≡ sets l₂ end (feed ∷ []) →
+    start ≡ at + length key → end ≡ at + length key + length word → l₃ ≡ sets l₀ at (key ++ (word ++ (feed ∷ [])))
+line-stored {l₁} {l₂} {l₃} {start} {end} l₀ at key word p q r f g =
+    cc (sets-append l₀ at key (word ++ (feed ∷ [])), sets-append (sets l₀ at key) (at + length key) word (feed ∷ []))
+
+-- ---- what the writer answers and leaves
 
 module _ (s : Settings) (buffer : List ℕ) where
   -- what the writer answers, and what the buffer then holds

@@ -3,12 +3,12 @@ use Prim.Native.Nat.{ℕ}
 use mathlib.Core.List.{List, [], _∷_, _++_}
 use lib.IntN.{ℤ}
 use lib.ListN.{take}
-use Rattle.settings.specs.Words.{bytes}
+use Rattle.whole.specs.Words.{bytes}
 use Rattle.settings.specs.declared.table.Row.{Row}
 use Rattle.settings.specs.declared.Settings.{Settings}
 use Rattle.settings.specs.Table.{rows}
 use Rattle.settings.specs.Settings.{valuesOf}
-use Rattle.text.specs.Decimal.{decimal}
+use Rattle.word.specs.Decimal.{decimal}
 
 -- the bytes of a row's key, with its `=`
 abbrev pub keyOf : Row → List ℕ

@@ -1,6 +1,6 @@
 -- 01, "Settings text": what a text is read as.
-use Prim.Native.Nat.{ℕ, suc, _+_}
-use mathlib.Core.Bool.{Bool, true, false, cond, _&&_}
+use Prim.Native.Nat.{ℕ, _+_}
+use mathlib.Core.Bool.{Bool, cond, _&&_}
 use mathlib.Core.List.{List, [], _∷_, _++_}
 use lib.Dec.{ltb, eqb}
 use lib.IntN.{ℤ, pos}
@@ -8,23 +8,15 @@ use lib.ListN.{length, take, drop}
 use Rattle.settings.specs.declared.table.Row.{Row}
 use Rattle.settings.specs.Table.{rows, inRow}
 use Rattle.settings.specs.Settings.{settingsOf, blankSettings, ordered}
-use Rattle.text.specs.declared.decimal.Decimal.{Decimal}
-use Rattle.text.specs.declared.decimal.Decimal.the-variants.{Is, Wrong}
+use Rattle.word.specs.declared.decimal.Decimal.{Decimal}
+use Rattle.word.specs.declared.decimal.Decimal.the-variants.{Is, Wrong}
+use Rattle.word.specs.Decimal.{isDecimal, numberOf}
+use Rattle.word.specs.End.{endAt, feed, begins}
 use Rattle.text.specs.declared.reader.Line.{Line}
 use Rattle.text.specs.declared.reader.Reading.{Reading}
-use Rattle.text.specs.Decimal.{isDecimal, numberOf}
 use Rattle.text.specs.Lines.{keyOf}
 
 -- ---- the first line of what is left of a text
-
--- the place of the first such byte, or the length where there is none
-abbrev pub endAt : ℕ → List ℕ → ℕ
-endAt byte [] = 0
-endAt byte (b ∷ s) = cond (eqb b byte) 0 (suc (endAt byte s))
-
--- "one line feed (byte 10)"
-abbrev pub feed : ℕ
-feed = 10
 
 -- the bytes before the line feed
 unfoldable pub lineIn : List ℕ → List ℕ
@@ -39,12 +31,6 @@ unfoldable pub afterLine : List ℕ → List ℕ
 afterLine s = drop (endAt feed s + 1) s
 
 -- ---- one line
-
--- whether a line begins with a key
-abbrev pub begins : List ℕ → List ℕ → Bool
-begins [] l = true
-begins (k ∷ ks) [] = false
-begins (k ∷ ks) (b ∷ l) = eqb b k && begins ks l
 
 -- what stands after the row's key
 unfoldable pub wordIn : Row → List ℕ → List ℕ

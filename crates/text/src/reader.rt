@@ -2,10 +2,13 @@
 ghost use mathlib.Core.Path.{_≡_};
 ghost use Prim.Native.Nat.{_≤_};
 ghost use Rattle.settings.specs.Table.{longestKey};
-ghost use Rattle.text.specs.Reader.{endAt, feed, begins, valueIn, lineRead, refused, readEnd, readText};
-use crate::decimal::Decimal;
+ghost use Rattle.word.specs.End.{endAt, feed};
+ghost use Rattle.text.specs.Reader.{valueIn, lineRead, refused, readEnd, readText};
 use settings::Settings;
 use settings::table::Row;
+use word::decimal::Decimal;
+use word::end::begins;
+use word::end::end_at;
 
 // What a text is read as. The line is that of codes 14 and 15; beside any code but 0 stand blank settings.
 pub struct Reading {
@@ -18,36 +21,6 @@ pub struct Reading {
 struct Line {
     code: u8,
     value: i32,
-}
-
-// The place of the first such byte, or the length where there is none.
-pub fn end_at(rest: &[u8], byte: u8) -> usize
-    ensures { λ r. ⌜ r ≡ endAt byte (now (rest .entry)) ⌝ }
-{
-    let mut i: usize = 0;
-    while i < rest.len() {
-        if rest[i] == byte {
-            return i;
-        }
-        i += 1;
-    }
-    i
-}
-
-pub fn begins(key: &[u8], line: &[u8]) -> bool
-    ensures { λ r. ⌜ r ≡ begins (now (key .entry)) (now (line .entry)) ⌝ }
-{
-    let mut i: usize = 0;
-    while i < key.len() {
-        if line.len() <= i {
-            return false;
-        }
-        if line[i] != key[i] {
-            return false;
-        }
-        i += 1;
-    }
-    true
 }
 
 // The value of a line, its line feed left out.

@@ -6,10 +6,10 @@ ghost use lib.Seq.{sets};
 ghost use Rattle.settings.specs.Table.{longestKey};
 ghost use Rattle.text.specs.Lines.{lineOf, textOf};
 ghost use Rattle.text.specs.Writer.{writtenOf, bufferAfter};
-use crate::buffer::put;
-use crate::buffer::put_signed;
 use settings::Settings;
 use settings::table::Row;
+use word::buffer::put;
+use word::buffer::put_signed;
 
 // What the writer answers: the length is that of the text, 0 beside any code but 0.
 pub struct Written {

@@ -4,8 +4,8 @@ ghost use Prim.Native.Nat.{_≤_};
 ghost use lib.ListN.{length};
 use libc::STDOUT_FILENO;
 use settings::Settings;
-use text::decimal::Decimal;
-use text::decimal::Shown;
+use word::decimal::Decimal;
+use word::decimal::Shown;
 
 // ---- texts that are put together
 

@@ -4,3 +4,4 @@ pub mod Lin
 pub mod Sizes
 pub mod Num
 pub mod Bits
+pub mod Lists

@@ -10,9 +10,9 @@ use Rattle.delivery.specs.declared.numbered.Numbered.{Numbered}
 use Rattle.delivery.specs.Memory.{lastNumber}
 use Rattle.delivery.specs.Numbered.{validOf}
 use Rattle.delivery.proofs.promises.Delivery.{again-valid}
-use Rattle.text.specs.declared.decimal.Decimal.{Decimal}
-use Rattle.text.specs.declared.decimal.Decimal.the-variants as decimal
-use Rattle.text.specs.Decimal.{decimalOf}
+use Rattle.word.specs.declared.decimal.Decimal.{Decimal}
+use Rattle.word.specs.declared.decimal.Decimal.the-variants as decimal
+use Rattle.word.specs.Decimal.{decimalOf}
 use Rattle.delivery_line.specs.declared.Delivery.{Delivery}
 use Rattle.delivery_line.specs.declared.Delivery.the-variants.{Is, Wrong}
 use Rattle.delivery_line.specs.Line.{deliveryOf}

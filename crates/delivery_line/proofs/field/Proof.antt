@@ -3,8 +3,8 @@ use mathlib.Core.Path.{sym, _∙_}
 use denote.Ref.{now}
 use lib.ListN.{length}
 use Rattle.whole.proofs.Truth.{so, cond-yes, cond-no}
-use Rattle.text.proofs.Lists.{part-left}
-use Rattle.text.proofs.Texts.{begun-long}
+use Rattle.whole.proofs.Lists.{part-left}
+use Rattle.word.proofs.Words.{begun-long}
 use Rattle.delivery_line.specs.Line.{fieldIn}
 use borrow.Author.Needs.{needs}
 use Rattle.delivery_line.proofs.field.Statement.{statement}

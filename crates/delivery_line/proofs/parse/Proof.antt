@@ -2,9 +2,9 @@ use Prim.Native.Nat.{ℕ}
 use mathlib.Core.Path.{_≡_, sym, ap, ap₂, _∙_}
 use mathlib.Core.List.{List}
 use denote.Ref.{now}
-use Rattle.text.specs.declared.decimal.Decimal.{Decimal}
-use Rattle.text.specs.declared.number.Number.{Number}
-use Rattle.text.specs.Number.{numberIn, signedIn}
+use Rattle.word.specs.declared.decimal.Decimal.{Decimal}
+use Rattle.word.specs.declared.number.Number.{Number}
+use Rattle.word.specs.Number.{numberIn, signedIn}
 use Rattle.delivery_line.specs.Line.{wordIn, restIn, fieldIn, asking, delivering, numberKey, commandKey, valueKey, secondKey, deliveryOf}
 use borrow.Author.Needs.{needs}
 use Rattle.delivery_line.proofs.parse.Statement.{statement}

@@ -3,10 +3,10 @@ use mathlib.Core.Path.{sym, ap, _∙_}
 use native.Mathlib.Omega.{arith}
 use denote.Ref.{now}
 use lib.ListN.{length, drop, drop-of-length-le}
-use Rattle.text.proofs.Lists.{part-left}
-use Rattle.text.specs.Reader.{endAt}
+use Rattle.whole.proofs.Lists.{part-left}
+use Rattle.word.specs.End.{endAt}
 use Rattle.delivery_line.specs.Line.{restIn}
-use Rattle.text.proofs.Words.{end-in}
+use Rattle.word.proofs.Words.{end-in}
 use borrow.Author.Needs.{needs}
 use Rattle.delivery_line.proofs.rest_in.Statement.{statement}
 use Rattle.delivery_line.proofs.rest_in.Tie as tie

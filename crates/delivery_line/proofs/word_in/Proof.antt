@@ -5,7 +5,7 @@ use denote.Ref.{now}
 use lib.ListN.{length, take}
 use lib.Seq.{length-take-le}
 use Rattle.delivery_line.specs.Line.{wordIn}
-use Rattle.text.proofs.Words.{end-in}
+use Rattle.word.proofs.Words.{end-in}
 use borrow.Author.Needs.{needs}
 use Rattle.delivery_line.proofs.word_in.Statement.{statement}
 use Rattle.delivery_line.proofs.word_in.Tie as tie

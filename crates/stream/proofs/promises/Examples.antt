@@ -3,7 +3,7 @@ use Prim.Native.Nat.{ℕ}
 use mathlib.Core.Path.{_≡_, refl, ap, _∙_}
 use mathlib.Core.Bool.{false}
 use mathlib.Core.List.{List, [], _∷_, _++_}
-use Rattle.settings.specs.Words.{bytes}
+use Rattle.whole.specs.Words.{bytes}
 use Rattle.settings.specs.Table.{rows}
 use Rattle.settings.specs.Settings.{inTable}
 use Rattle.pid.specs.Units.{rounded}
@@ -13,7 +13,7 @@ use Rattle.pid.specs.Law.{sampleOf, stepOf, refusalOf}
 use Rattle.delivery.specs.Memory.{isLast, foundBy}
 use Rattle.delivery.specs.Numbered.{servedOf, deliveredOf}
 use Rattle.text.specs.declared.reader.Reading.{Reading}
-use Rattle.text.specs.Decimal.{isSize, hasMinus, unsigned, sizeOf, isDecimal, numberOf, shown}
+use Rattle.word.specs.Decimal.{isSize, hasMinus, unsigned, sizeOf, isDecimal, numberOf, shown}
 use Rattle.text.specs.Reader.{readText}
 use Rattle.text.proofs.SettingsC.{textC, c-read}
 use Rattle.stream.specs.Run.{refusedLine, keeping}

@@ -11,10 +11,10 @@ use lib.ListN.{length, length-drop}
 use Rattle.whole.proofs.Truth.{both, by-test, chosen, cond-yes, cond-no}
 use Rattle.delivery.specs.declared.numbered.Numbered.{Numbered}
 use Rattle.delivery.specs.Numbered.{blankOf}
-use Rattle.text.specs.declared.decimal.Decimal.the-variants.{Wrong}
-use Rattle.text.specs.Decimal.{mostDigits, isSize, hasMinus, unsigned, decimalOf}
+use Rattle.word.specs.declared.decimal.Decimal.the-variants.{Wrong}
+use Rattle.word.specs.Decimal.{mostDigits, isSize, hasMinus, unsigned, decimalOf}
 use Rattle.text.specs.Reader.{readText}
-use Rattle.text.proofs.Digits.{sized, no-size}
+use Rattle.word.proofs.Digits.{sized, no-size}
 use Rattle.answer.specs.Verdict.{Verdict, refused}
 use Rattle.answer.specs.Oven.{byDecimal, sampleLine}
 use Rattle.answer.specs.Judge.{judgedBy}

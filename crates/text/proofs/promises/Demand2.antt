@@ -1,11 +1,11 @@
 -- DEMAND 2, of the settings text, for every text, every settings record and every buffer. By their contracts the
 -- reader answers `readText text`, and the writer answers `writtenOf s (length buffer)` and leaves `bufferAfter s buffer`.
-use Prim.Native.Nat.{ℕ, _+_, _^_, _<_, _≤_}
+use Prim.Native.Nat.{ℕ, _+_, _<_, _≤_}
 use mathlib.Core.Path.{_≡_, refl, sym, ap, _∙_}
 use mathlib.Core.Bool.{true}
 use mathlib.Core.List.{List, _++_}
 use mathlib.Core.Logic.{_↔_, _⊎_}
-use lib.IntN.{ℤ, natAbs}
+use lib.IntN.{ℤ}
 use lib.ListN.{length, take, drop}
 use lib.Seq.{take-at}
 use Rattle.settings.specs.declared.Settings.{Settings}
@@ -13,12 +13,9 @@ use Rattle.settings.specs.Table.{sets, lines, rows}
 use Rattle.settings.specs.Settings.{allIn, settingsRefusal}
 use Rattle.settings.specs.SettingsC.{settingsC}
 use Rattle.text.specs.declared.reader.Reading.{Reading}
-use Rattle.text.specs.declared.decimal.Decimal.the-variants.{Is}
-use Rattle.text.specs.Decimal.{isDecimal, numberOf, decimalOf, decimal}
 use Rattle.text.specs.Lines.{linesOf, textOf, longestText}
 use Rattle.text.specs.Reader.{refused, readText}
 use Rattle.text.specs.Writer.{writtenOf, bufferAfter}
-use Rattle.text.proofs.Decimals.{decimal-read, read-decimal}
 use Rattle.text.proofs.Texts.{text-answer}
 use Rattle.text.proofs.Writes.{fits-in, sound-long, wrote, wrote-nothing}
 use Rattle.text.proofs.Trip.{text-read, text-back, text-stops}
@@ -81,14 +78,3 @@ stops-early k vs h e i = text-stops k vs h e i
 pub refused-writing : (s : Settings) (buffer : List ℕ) → (writtenOf s (length buffer) .code ≡ 0 → ⊥) →
     (writtenOf s (length buffer) .len ≡ 0) × (bufferAfter s buffer ≡ buffer)
 refused-writing s buffer f = wrote-nothing s buffer f
-
--- A word is a decimal exactly when it is what is written for a number of at most 7 digits.
-pub decimal-exactly : (w : List ℕ) → (isDecimal w ≡ true) ↔ ((z : ℤ) × (natAbs z < 10 ^ 7) × (w ≡ decimal z))
-decimal-exactly w = (
-  λ e. let t = read-decimal w e in (numberOf w, t .small, sym (t .same)),
-  λ p. ap isDecimal (p .2) ∙ decimal-read (p .0) (p .1) .form,
-)
-
--- And it is read as that number.
-pub decimal-back : (z : ℤ) → natAbs z < 10 ^ 7 → decimalOf (decimal z) ≡ Is z
-decimal-back z h = let r = decimal-read z h in rw (r .form, r .number)

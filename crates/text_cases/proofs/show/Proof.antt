@@ -1,7 +1,7 @@
 use mathlib.Core.Path.{_≡_}
 use native.Mathlib.Omega.{arith}
 use lib.ListN.{length}
-use Rattle.text.specs.Decimal.{decimalRoom}
+use Rattle.word.specs.Decimal.{decimalRoom}
 use borrow.Author.Needs.{needs}
 use Rattle.text_cases.proofs.show.Statement.{statement}
 use Rattle.text_cases.proofs.show.Tie as tie

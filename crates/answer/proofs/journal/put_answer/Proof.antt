@@ -5,10 +5,10 @@ use denote.Ref.{now}
 use lib.ListN.{length}
 use lib.Seq.{sets}
 use mir.Facts.{toZ-ofZ}
-use Rattle.text.specs.Decimal.{shown, decimal}
-use Rattle.text.proofs.Shows.{shown-room, decimal-room}
+use Rattle.word.specs.Decimal.{shown, decimal}
+use Rattle.word.proofs.Shows.{shown-room, decimal-room}
 use Rattle.answer.specs.Journal.{codeKey, outputKey, lastKey, answerText}
-use Rattle.text.proofs.Puts.{Puts, puts-none, puts-more, puts-all, code-room}
+use Rattle.word.proofs.Puts.{Puts, puts-none, puts-more, puts-all, code-room}
 use native.Mathlib.Omega.{arith}
 use borrow.Author.Needs.{needs}
 use Rattle.answer.proofs.journal.put_answer.Statement.{statement}

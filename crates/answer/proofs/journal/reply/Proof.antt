@@ -7,7 +7,7 @@ use lib.ListN.{length}
 use mir.Syntax.{w32}
 use mir.Val.{SFits}
 use mir.Facts.{toZ-ofZ}
-use Rattle.text.proofs.Puts.{Puts, puts-none, puts-more, puts-all}
+use Rattle.word.proofs.Puts.{Puts, puts-none, puts-more, puts-all}
 use Rattle.answer.specs.Journal.{answerText}
 use Rattle.answer.proofs.Verdicts.{judges-answered}
 use borrow.Author.Needs.{needs}

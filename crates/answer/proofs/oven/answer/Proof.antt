@@ -6,9 +6,9 @@ use denote.Ref.{now}
 use lib.ListN.{length}
 use lib.Seq.{sets}
 use mir.Facts.{toZ-ofZ}
-use Rattle.text.specs.Decimal.{decimal}
-use Rattle.text.proofs.Shows.{decimal-room}
-use Rattle.text.proofs.Puts.{Puts, puts-none, puts-more, puts-all}
+use Rattle.word.specs.Decimal.{decimal}
+use Rattle.word.proofs.Shows.{decimal-room}
+use Rattle.word.proofs.Puts.{Puts, puts-none, puts-more, puts-all}
 use Rattle.answer.specs.Oven.{outputLine}
 use Rattle.answer.proofs.Verdicts.{judges-answered}
 use borrow.Author.Needs.{needs}

@@ -2,10 +2,10 @@ use Prim.Native.Nat.{ℕ, _+_, _≤_}
 use mathlib.Core.Path.{refl, ap}
 use mathlib.Core.List.{[], _∷_, append-assoc}
 use denote.Ref.{now}
-use Rattle.text.specs.Decimal.{shown}
-use Rattle.text.proofs.Shows.{shown-room}
+use Rattle.word.specs.Decimal.{shown}
+use Rattle.word.proofs.Shows.{shown-room}
 use Rattle.stream.specs.Run.{refusedWord, refusedLine}
-use Rattle.text.proofs.Puts.{Puts, puts-none, puts-more, puts-all, code-room}
+use Rattle.word.proofs.Puts.{Puts, puts-none, puts-more, puts-all, code-room}
 use native.Mathlib.Omega.{arith}
 use borrow.Author.Needs.{needs}
 use Rattle.stream.proofs.run.put_refused.Statement.{statement}

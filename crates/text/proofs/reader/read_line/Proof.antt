@@ -12,9 +12,10 @@ use mir.Val.{SFits}
 use mir.Facts.{toZ-ofZ}
 use Rattle.whole.proofs.Truth.{so}
 use Rattle.settings.specs.Table.{inRow}
-use Rattle.text.specs.declared.decimal.Decimal.the-variants.{Is}
-use Rattle.text.specs.Reader.{feed, lineIn, ended, valueIn}
-use Rattle.text.proofs.Words.{end-in}
+use Rattle.word.specs.declared.decimal.Decimal.the-variants.{Is}
+use Rattle.word.specs.End.{feed}
+use Rattle.word.proofs.Words.{end-in}
+use Rattle.text.specs.Reader.{lineIn, ended, valueIn}
 use Rattle.text.proofs.Texts.{line-wrong, line-stops, line-out, line-good}
 use Rattle.text.proofs.reader.read_line.Statement.{statement}
 use Rattle.text.proofs.reader.read_line.Tie as tie

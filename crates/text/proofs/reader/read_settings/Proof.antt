@@ -16,7 +16,7 @@ use Rattle.settings.specs.declared.table.Row.{Row}
 use Rattle.settings.specs.Table.{lines, rows, noRow}
 use Rattle.text.specs.declared.reader.Line.{Line}
 use Rattle.text.specs.Reader.{lineCode, lineValue, lineRead, refused, readEnd, readFrom, readText}
-use Rattle.text.proofs.Lists.{set-take}
+use Rattle.whole.proofs.Lists.{set-take}
 use Rattle.text.proofs.Rows.{key-short, rows-next}
 use Rattle.text.proofs.Texts.{line-yes, feed-there, value-taken, part-line, after-shorter, line-refused, line-taken, lines-done}
 use Rattle.text.proofs.reader.read_settings.Statement.{statement}

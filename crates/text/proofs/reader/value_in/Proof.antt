@@ -7,12 +7,14 @@ use denote.Ref.{now}
 use lib.ListN.{length}
 use Rattle.whole.proofs.Truth.{so}
 use Rattle.settings.specs.Table.{longestKey}
-use Rattle.text.specs.Decimal.{decimalOf}
+use Rattle.word.specs.Decimal.{decimalOf}
+use Rattle.word.specs.End.{begins}
+use Rattle.word.proofs.Words.{begun-long}
 use Rattle.text.specs.Lines.{keyOf}
-use Rattle.text.specs.Reader.{begins, wordIn}
-use Rattle.text.proofs.Lists.{part-left}
+use Rattle.text.specs.Reader.{wordIn}
+use Rattle.whole.proofs.Lists.{part-left}
 use Rattle.text.proofs.Rows.{key-length}
-use Rattle.text.proofs.Texts.{begun-long, not-begun, begun}
+use Rattle.text.proofs.Texts.{not-begun, begun}
 use Rattle.text.proofs.reader.value_in.Statement.{statement}
 use Rattle.text.proofs.reader.value_in.Tie as tie
 

@@ -6,11 +6,11 @@ use lib.ListN.{length, length-append}
 use lib.Seq.{sets}
 use mir.Facts.{toZ-ofZ}
 use Rattle.settings.specs.Table.{longestKey}
-use Rattle.text.specs.Decimal.{decimalRoom, decimal}
+use Rattle.word.specs.Decimal.{decimalRoom, decimal}
+use Rattle.word.proofs.Shows.{decimal-room}
 use Rattle.text.specs.Lines.{keyOf}
-use Rattle.text.proofs.Shows.{decimal-room}
 use Rattle.text.proofs.Rows.{key-length}
-use Rattle.text.proofs.Stores.{line-stored}
+use Rattle.text.proofs.Writes.{line-stored}
 use borrow.Author.Needs.{needs}
 use Rattle.text.proofs.writer.put_line.Statement.{statement}
 use Rattle.text.proofs.writer.put_line.Tie as tie

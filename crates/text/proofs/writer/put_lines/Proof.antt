@@ -14,11 +14,11 @@ use Rattle.settings.specs.Table.{longestKey, lines, rows, noRow}
 use Rattle.settings.specs.Settings.{valuesOf}
 use Rattle.settings.proofs.Fit.{settings-fit}
 use Rattle.settings.proofs.Rows.{values-long}
-use Rattle.text.specs.Decimal.{decimalRoom}
+use Rattle.word.specs.Decimal.{decimalRoom}
+use Rattle.word.proofs.Stores.{rest-stored}
 use Rattle.text.specs.Lines.{lineOf, linesOf, textOf}
-use Rattle.text.proofs.Shows.{line-short}
+use Rattle.text.proofs.Writes.{line-short}
 use Rattle.text.proofs.Rows.{key-short, lines-next, lines-end}
-use Rattle.text.proofs.Stores.{rest-stored}
 use Rattle.text.proofs.writer.put_lines.Statement.{statement}
 use Rattle.text.proofs.writer.put_lines.Tie as tie
 

@@ -8,8 +8,8 @@ use lib.ListN.{length, take, replicate, length-take}
 use lib.Seq.{sets}
 use Rattle.whole.proofs.Truth.{so}
 use Rattle.settings.specs.Settings.{settingsRefusal}
+use Rattle.word.proofs.Stores.{front-stored, text-part}
 use Rattle.text.specs.Lines.{textOf, longestText}
-use Rattle.text.proofs.Stores.{front-stored, text-part}
 use Rattle.text.proofs.Writes.{settings-refused, too-short, fits-in, sound-long}
 use Rattle.text.proofs.writer.write_settings.Statement.{statement}
 use Rattle.text.proofs.writer.write_settings.Tie as tie

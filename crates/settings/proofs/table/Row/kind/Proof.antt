@@ -1,5 +1,5 @@
 use Rattle.settings.specs.Table.{table, noRow}
-use Rattle.settings.proofs.Lists.{getD-any}
+use Rattle.whole.proofs.Lists.{getD-any}
 use borrow.Author.Needs.{needs}
 use Rattle.settings.proofs.table.Row.kind.Statement.{statement}
 use Rattle.settings.proofs.table.Row.kind.Tie as tie

@@ -9,12 +9,12 @@ use lib.ListN.{length, take, drop, length-drop, drop-of-length-le}
 use lib.Dec.{ltb}
 use lib.Seq.{sets, length-sets, take-all, length-take-le}
 use borrow.Rule.Slice.PartMut.{putMid}
-use Rattle.text.proofs.Lists.{part-left}
+use Rattle.whole.proofs.Lists.{part-left}
 use Rattle.stream.specs.Run.{lineRoom}
 use Rattle.stream.specs.Feed.{lineOf}
-use Rattle.text.specs.Reader.{feed}
-use Rattle.text.proofs.Words.{end-in}
-use Rattle.text.proofs.Stores.{rest-back}
+use Rattle.word.specs.End.{feed}
+use Rattle.word.proofs.Words.{end-in}
+use Rattle.word.proofs.Stores.{rest-back}
 use Rattle.stream.proofs.Feeds.{feed-split, feed-plain, all-plain}
 use Rattle.stream.proofs.Line.{part-passing, line-passing}
 use Rattle.stream.proofs.Pieces.{Passed, passed-none, passed-more, passed-all}

@@ -1,0 +1,9 @@
+pub mod Words
+pub mod Digits
+pub mod Signs
+pub mod Decimals
+pub mod Widths
+pub mod Shows
+pub mod Stores
+pub mod Puts
+pub mod promises
