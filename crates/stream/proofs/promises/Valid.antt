@@ -11,7 +11,7 @@ use Rattle.settings.specs.declared.Settings.{Settings}
 use Rattle.settings.specs.Settings.{settingsRefusal}
 use Rattle.pid.specs.declared.record.Made.{Made}
 use Rattle.pid.specs.Record.{madeOf}
-use Rattle.delivery.specs.Memory.{lastNumber}
+use Rattle.memory.specs.Memory.{lastNumber}
 use Rattle.delivery.specs.Numbered.{validOf}
 use Rattle.delivery.proofs.promises.Delivery.{made-valid, again-valid}
 use Rattle.text.specs.Reader.{readText}
