@@ -7,7 +7,7 @@ use lib.IntN.{ℤ}
 use Rattle.command.specs.declared.Command.the-variants.{Sample}
 use Rattle.delivery.specs.declared.numbered.Numbered.{Numbered}
 use Rattle.delivery.specs.declared.numbered.Delivered.{Delivered}
-use Rattle.delivery.specs.Memory.{lastNumber}
+use Rattle.memory.specs.Memory.{lastNumber}
 use Rattle.delivery.specs.Numbered.{deliveredOf}
 use Rattle.word.specs.declared.decimal.Decimal.{Decimal}
 use Rattle.word.specs.declared.decimal.Decimal.the-variants.{Is, Wrong}

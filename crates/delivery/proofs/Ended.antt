@@ -6,24 +6,24 @@ use mathlib.Core.List.{List, [], _∷_}
 use native.Mathlib.Omega.{arith}
 use borrow.Author.Tests.{eqb-true}
 use lib.Dec.{eqb}
-use lib.IntN.{ℤ, _+ℤ_}
+use lib.IntN.{_+ℤ_}
 use lib.ListN.{length}
 use Rattle.whole.proofs.Truth.{never, and, both}
 use Rattle.command.specs.declared.Command.{Command}
 use Rattle.pid.specs.declared.record.Loop.{Loop}
 use Rattle.pid.specs.Record.{valid}
 use Rattle.pid.specs.Law.{refusalOf, stepOf}
-use Rattle.pid.specs.Sequence.{after, each}
+use Rattle.command.specs.Sequence.{after, each}
 use Rattle.pid.specs.Run.{accepted, unbroken, shares}
 use Rattle.pid.proofs.Shares.{run-shares}
-use Rattle.delivery.specs.declared.memory.Last.{Last}
-use Rattle.delivery.specs.declared.memory.Last.the-variants.{Nothing, Kept as Last·Kept}
+use Rattle.memory.specs.declared.Last.{Last}
+use Rattle.memory.specs.declared.Last.the-variants.{Nothing, Kept as Last·Kept}
+use Rattle.memory.specs.Memory.{lastOk}
+use Rattle.memory.specs.Walk.{Walk, keeps, keeping, onward, answerTo, kept}
+use Rattle.memory.proofs.Walked.{Sent, Runs, walked-state, walked-count, ends, all-answers}
 use Rattle.delivery.specs.declared.numbered.Numbered.{Numbered}
-use Rattle.delivery.specs.Memory.{lastOk}
 use Rattle.delivery.specs.Numbered.{recordOf, memoryOk, validOf}
-use Rattle.delivery.specs.Walk.{Walk, keeps, keeping, onward, answerTo, kept}
 use Rattle.delivery.specs.Demand3.{plain, window, answered, handedBack, lastOf, recalled, standing, keptOn}
-use Rattle.delivery.proofs.Walked.{Sent, Runs, walked-state, walked-count, ends, all-answers}
 use Rattle.delivery.proofs.Stands.{lastIn, standsAt, Newest, Good, numbered}
 use Rattle.delivery.proofs.Served.{delivered-valid}
 

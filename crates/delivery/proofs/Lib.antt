@@ -1,5 +1,3 @@
-pub mod Order
-pub mod Walked
 pub mod Stands
 pub mod Served
 pub mod Ended

@@ -12,11 +12,11 @@ use Rattle.whole.proofs.Truth.{and, by-test, cond-no, zero-if, zero-else}
 use Rattle.pid.specs.Record.{valid}
 use Rattle.pid.specs.Play.{firstBad, frontFilled, playRefusal}
 use Rattle.pid.proofs.Turns.{bad-most}
+use Rattle.memory.proofs.Order.{neither}
 use Rattle.delivery.specs.declared.numbered.Numbered.{Numbered}
 use Rattle.delivery.specs.declared.replay.Replayed.{Replayed}
 use Rattle.delivery.specs.Numbered.{memoryOk, validOf}
 use Rattle.delivery.specs.Replay.{numbersLeft, replayRefusal, deliveredOutputs, doneOf, refusedOf, stoppedOf, replayedOf, writtenOf}
-use Rattle.delivery.proofs.Order.{neither}
 
 module _ (s : Numbered) (first : ℕ) (pvs : List ℤ) (room : ℕ) where
   code-10 : validOf s ≡ false → replayRefusal s first pvs room ≡ 10

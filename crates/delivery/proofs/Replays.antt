@@ -14,17 +14,17 @@ use Rattle.command.specs.declared.Command.the-variants.{Sample}
 use Rattle.pid.specs.declared.record.Loop.{Loop}
 use Rattle.pid.specs.Record.{inReach}
 use Rattle.pid.specs.Law.{refusalOf, stepOf}
-use Rattle.pid.specs.Sequence.{after, each}
+use Rattle.command.specs.Sequence.{after, each}
 use Rattle.pid.specs.declared.play.Played.{Played}
 use Rattle.pid.specs.Play.{afterSamples, outputsOf, firstBad, playRefusal, playedOf, wroteOf, frontFilled}
 use Rattle.pid.proofs.Obeys.{sample-taken}
 use Rattle.pid.proofs.Turns.{first-good}
 use Rattle.pid.proofs.Plays.{after-commands, played-refused, played-done, playable}
-use Rattle.delivery.specs.declared.memory.Last.{Last}
-use Rattle.delivery.specs.declared.memory.Last.the-variants.{Kept as Last·Kept}
+use Rattle.memory.specs.declared.Last.{Last}
+use Rattle.memory.specs.declared.Last.the-variants.{Kept as Last·Kept}
+use Rattle.memory.specs.Walk.{Delivery, Answer, Walk, keeps, keeping, keptAnswer, onward, answerTo, kept}
 use Rattle.delivery.specs.declared.numbered.Numbered.{Numbered}
 use Rattle.delivery.specs.Numbered.{recordOf, memoryOk, validOf}
-use Rattle.delivery.specs.Walk.{Delivery, Answer, Walk, keeps, keeping, keptAnswer, onward, answerTo, kept}
 use Rattle.delivery.specs.Demand3.{plain, window, lastOf, standing}
 use Rattle.delivery.specs.Replay.{numbered, recordAfter, deliveredOutputs, numbersLeft, replayRefusal, doneOf, refusedOf}
 use Rattle.delivery.proofs.Ended.{end-from, answers-from}

@@ -6,11 +6,11 @@ use native.Mathlib.Omega.{arith}
 use lib.IntN.{ℤ, pos}
 use lib.ListN.{length, drop, getD, length-append, length-drop, length-map}
 use lib.Seq.{getD-append-add, getD-drop}
-use Rattle.pid.specs.Sequence.{each}
+use Rattle.command.specs.Sequence.{each}
 use Rattle.pid.specs.Play.{frontFilled}
 use Rattle.pid.proofs.Turns.{each-length}
+use Rattle.memory.specs.Walk.{Answer}
 use Rattle.delivery.specs.declared.numbered.Numbered.{Numbered}
-use Rattle.delivery.specs.Walk.{Answer}
 use Rattle.delivery.specs.Demand3.{handedBack, answered}
 use Rattle.delivery.specs.Replay.{numbered, recordAfter, deliveredOutputs, replayRefusal}
 use Rattle.delivery.proofs.Ended.{all-valid}

@@ -13,14 +13,13 @@ use Rattle.pid.specs.Law.{refusalOf, stepOf, lawOf}
 use Rattle.pid.proofs.Kept.{step-valid}
 use Rattle.pid.proofs.Obeys.{obeys, refuses, breaks, never-ten}
 use Rattle.command.proofs.Same.{same-self}
-use Rattle.delivery.specs.declared.memory.Last.the-variants.{Kept}
-use Rattle.delivery.specs.declared.memory.Found.{Found}
-use Rattle.delivery.specs.declared.memory.Found.the-variants.{Old, Reused, Repeated, Ahead, Next}
+use Rattle.memory.specs.declared.Found.{Found}
+use Rattle.memory.specs.declared.Found.the-variants.{Old, Reused, Repeated, Ahead, Next}
+use Rattle.memory.specs.Memory.{isLast, foundOf}
+use Rattle.memory.proofs.Order.{Means, means, number-repeated, number-next, last-kept}
 use Rattle.delivery.specs.declared.numbered.Numbered.{Numbered}
 use Rattle.delivery.specs.declared.numbered.Delivered.{Delivered}
-use Rattle.delivery.specs.Memory.{lastOk, isLast, foundOf}
 use Rattle.delivery.specs.Numbered.{memoryOk, validOf, answerOf, brokenOf, keptOf, servedOf, deliveredOf, triedOf}
-use Rattle.delivery.proofs.Order.{Means, means, number-repeated, number-next}
 
 -- ---- the ways of `deliver`
 
@@ -79,10 +78,6 @@ module _ (P : Delivered → Type 0) (s : Numbered) (n : ℕ) (c : Command) where
       broken
 
 -- ---- a kept delivery, and the same again
-
--- a number above 0 with a command keeps the memory's rule
-last-kept : (n : ℕ) (c : Command) → (n ≡ 0 → ⊥) → lastOk n (Kept c) ≡ true
-last-kept n c h = rw (ne-eqb n 0 h)
 
 module _ (s : Numbered) (n : ℕ) (c : Command) (v : validOf s ≡ true) where
   served-as : (f : Found) → foundOf (s .memory) n c ≡ f → deliveredOf s n c ≡ servedOf s n c f

@@ -9,11 +9,11 @@ use Rattle.pid.specs.declared.record.Loop.{Loop}
 use Rattle.pid.specs.Units.{fine}
 use Rattle.settings.specs.SettingsC.{settingsC}
 use Rattle.pid.specs.Record.{freshOf}
-use Rattle.delivery.specs.declared.memory.Last.the-variants.{Kept}
+use Rattle.memory.specs.declared.Last.the-variants.{Kept}
+use Rattle.memory.specs.Memory.{lastNumber}
 use Rattle.delivery.specs.declared.numbered.Numbered.{Numbered}
 use Rattle.delivery.specs.declared.numbered.Delivered.{Delivered}
 use Rattle.delivery.specs.Numbered.{recordOf, newOf, deliveredOf}
-use Rattle.delivery.specs.Memory.{lastNumber}
 
 -- ---- rows
 

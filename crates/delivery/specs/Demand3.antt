@@ -3,7 +3,8 @@
 -- content in the state reached. The end state is the law's after the kept commands, each given once. A kept delivery gets
 -- the law's output, an exact repeat of the latest kept one gets that same answer, and every other gets its named refusal."
 --
--- The walk stands in Walk.antt, over any law; here are 01's plain law, what `deliver` makes of a list, and the demand itself.
+-- The walk stands in memory/specs/Walk.antt, over any law; here are 01's plain law, what `deliver` makes of a list, and the
+-- demand itself.
 use Prim.Native.Nat.{ℕ}
 use mathlib.Core.Path.{_≡_}
 use mathlib.Core.List.{List, [], _∷_}
@@ -13,13 +14,13 @@ use Rattle.command.specs.declared.Command.{Command}
 use Rattle.pid.specs.declared.record.Loop.{Loop}
 use Rattle.command.specs.Command.{same}
 use Rattle.pid.specs.Law.{refusalOf, stepOf}
-use Rattle.pid.specs.Sequence.{after, each}
-use Rattle.delivery.specs.declared.memory.Last.{Last}
-use Rattle.delivery.specs.declared.memory.Last.the-variants.{Nothing, Kept as Last·Kept}
+use Rattle.command.specs.Sequence.{after, each}
+use Rattle.memory.specs.declared.Last.{Last}
+use Rattle.memory.specs.declared.Last.the-variants.{Nothing, Kept as Last·Kept}
+use Rattle.memory.specs.Walk.{Law, Delivery, Answer, Kept, Walk, start, onward, answerTo, kept}
 use Rattle.delivery.specs.declared.numbered.Numbered.{Numbered}
 use Rattle.delivery.specs.declared.numbered.Delivered.{Delivered}
 use Rattle.delivery.specs.Numbered.{recordOf, deliveredOf}
-use Rattle.delivery.specs.Walk.{Law, Delivery, Answer, Kept, Walk, start, onward, answerTo, kept}
 
 -- 01's loop: "The plain law knows no numbers."
 abbrev pub plain : Law

@@ -9,13 +9,13 @@ use Rattle.command.specs.declared.Command.{Command}
 use Rattle.pid.specs.declared.record.Loop.{Loop}
 use Rattle.pid.specs.Record.{blankLoop, valid, madeOf as Loop·madeOf}
 use Rattle.pid.specs.Law.{refusalOf, stepOf}
-use Rattle.delivery.specs.declared.memory.Last.{Last}
-use Rattle.delivery.specs.declared.memory.Found.{Found}
-use Rattle.delivery.specs.declared.memory.Found.the-variants.{Old, Reused, Repeated, Ahead, Next}
+use Rattle.memory.specs.declared.Last.{Last}
+use Rattle.memory.specs.declared.Found.{Found}
+use Rattle.memory.specs.declared.Found.the-variants.{Old, Reused, Repeated, Ahead, Next}
+use Rattle.memory.specs.Memory.{noMemory, remembered, lastOk, foundOf}
 use Rattle.delivery.specs.declared.numbered.Numbered.{Numbered}
 use Rattle.delivery.specs.declared.numbered.Made.{Made}
 use Rattle.delivery.specs.declared.numbered.Delivered.{Delivered}
-use Rattle.delivery.specs.Memory.{noMemory, remembered, lastOk, foundOf}
 
 -- ---- the record
 

@@ -8,13 +8,13 @@ use lib.ListN.{length}
 use Rattle.command.specs.declared.Command.{Command}
 use Rattle.command.specs.declared.Command.the-variants.{Sample}
 use Rattle.pid.specs.Record.{valid}
-use Rattle.pid.specs.Sequence.{after, each}
+use Rattle.command.specs.Sequence.{after, each}
 use Rattle.pid.specs.Play.{firstBad, frontFilled}
+use Rattle.memory.specs.Memory.{lastNumber}
+use Rattle.memory.specs.Walk.{Delivery, Answer}
 use Rattle.delivery.specs.declared.numbered.Numbered.{Numbered}
 use Rattle.delivery.specs.declared.replay.Replayed.{Replayed}
-use Rattle.delivery.specs.Memory.{lastNumber}
 use Rattle.delivery.specs.Numbered.{validOf}
-use Rattle.delivery.specs.Walk.{Delivery, Answer}
 use Rattle.delivery.specs.Demand3.{handedBack, answered}
 
 -- ---- "delivering the n samples in order"

@@ -1,9 +1,9 @@
 // 01's record as the queue sees it: a loop and what it remembers of its deliveries. Making one, its state rules, a delivery.
 ghost use mathlib.Core.Path.{_≡_};
 ghost use Rattle.delivery.specs.Numbered.{newOf, madeOf, blankOf, validOf, answerOf, brokenOf, keptOf, settledOf, triedOf, deliveredOf};
-use crate::memory::Found;
-use crate::memory::Memory;
 use command::Command;
+use memory::Found;
+use memory::Memory;
 use pid::record::Loop;
 use settings::Settings;
 

@@ -12,7 +12,7 @@ use Rattle.command.specs.declared.Command.{Command}
 use Rattle.command.specs.declared.Command.the-variants.{Sample, Hold, Put, Automatic, Target, Set}
 use Rattle.pid.specs.Sample.{actedOf}
 use Rattle.pid.specs.Law.{sampleOf, stepOf}
-use Rattle.pid.specs.Sequence.{after}
+use Rattle.command.specs.Sequence.{after}
 use Rattle.pid.specs.Run.{obeyed, switches, between}
 
 unfoldable pub quiet : Loop → Bool

@@ -16,7 +16,7 @@ use Rattle.pid.specs.declared.play.Played.{Played}
 use Rattle.pid.specs.Record.{valid}
 use Rattle.pid.specs.Sample.{movedOf}
 use Rattle.pid.specs.Law.{withMoving, fixedOf, sampleOf, stepOf}
-use Rattle.pid.specs.Sequence.{after, each}
+use Rattle.command.specs.Sequence.{after, each}
 use Rattle.pid.specs.Play.{sampled, afterSamples, outputsOf, firstBad, playRefusal, refusedOf, playedOf, frontFilled, wroteOf, movedAfter, movedOutputs}
 use Rattle.pid.proofs.Turns.{bad-most, each-length}
 

@@ -18,7 +18,7 @@ use Rattle.command.specs.declared.Command.the-variants.{Sample, Hold, Put, Auto
 use Rattle.pid.specs.Record.{valid}
 use Rattle.pid.specs.Sample.{lesser, ramped, sensedOf, actedOf}
 use Rattle.pid.specs.Law.{sampleOf, stepOf}
-use Rattle.pid.specs.Sequence.{after}
+use Rattle.command.specs.Sequence.{after}
 use Rattle.pid.specs.Run.{obeyed, noTarget, samples, distance, ceiling, samplesToTarget}
 use Rattle.pid.proofs.Sound.{holds-of}
 

@@ -22,7 +22,7 @@ use Rattle.pid.specs.Record.{inReach, valid}
 use Rattle.pid.specs.Bounds.{FixedOk, MovingOk, SensedOk}
 use Rattle.pid.specs.Sample.{lesser, greater, limited, shareOf, vOf, limitedV, clamped, backCalculated, integrated, newI, actedOf}
 use Rattle.pid.specs.Law.{fixedOf, movingOf, sampleOf, refusalOf, stepOf}
-use Rattle.pid.specs.Sequence.{after}
+use Rattle.command.specs.Sequence.{after}
 use Rattle.pid.specs.Run.{obeyed, accepted, sensedAt, shareAt, withinLimits, ordinaryWithin, unbroken, shares}
 use Rattle.pid.proofs.Arithmetic.{limited-between}
 use Rattle.pid.proofs.Samples.{sensed-ok}

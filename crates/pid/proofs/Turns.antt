@@ -17,7 +17,7 @@ use Rattle.settings.specs.Table.{reach}
 use Rattle.pid.specs.Record.{inReach}
 use Rattle.pid.specs.Sample.{movedOf}
 use Rattle.pid.specs.Bounds.{FixedOk, MovingOk}
-use Rattle.pid.specs.Sequence.{after, each}
+use Rattle.command.specs.Sequence.{after, each}
 use Rattle.pid.specs.Play.{firstBad, movedAfter, movedOutputs, frontFilled}
 use Rattle.pid.proofs.Sound.{in-range}
 use Rattle.pid.proofs.Samples.{sensed-ok, acted-ok}

@@ -1,4 +1,3 @@
-pub mod Sequence
 pub mod Units
 pub mod Record
 pub mod Sample

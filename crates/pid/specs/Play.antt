@@ -13,7 +13,7 @@ use Rattle.pid.specs.declared.play.Played.{Played}
 use Rattle.pid.specs.Record.{inReach, valid}
 use Rattle.pid.specs.Sample.{movedOf}
 use Rattle.pid.specs.Law.{stepOf}
-use Rattle.pid.specs.Sequence.{after, each}
+use Rattle.command.specs.Sequence.{after, each}
 
 -- ---- the samples, each given once, in order
 

@@ -11,7 +11,7 @@ use Rattle.command.specs.declared.Command.the-variants.{Sample, Hold, Put, Auto
 use Rattle.pid.specs.declared.sample.Sensed.{Sensed}
 use Rattle.pid.specs.Sample.{sensedOf, shareOf, vOf, limitedV}
 use Rattle.pid.specs.Law.{fixedOf, movingOf, refusalOf, stepOf}
-use Rattle.pid.specs.Sequence.{after}
+use Rattle.command.specs.Sequence.{after}
 
 -- the law's state after some commands, each given once
 abbrev pub obeyed : Loop → List Command → Loop

@@ -7,7 +7,7 @@ use lib.Dec.{eqb}
 use Rattle.whole.proofs.Truth.{chosen}
 use Rattle.command.specs.declared.Command.the-variants.{Sample}
 use Rattle.delivery.specs.declared.numbered.Numbered.{Numbered}
-use Rattle.delivery.specs.Memory.{lastNumber}
+use Rattle.memory.specs.Memory.{lastNumber}
 use Rattle.delivery.specs.Numbered.{validOf}
 use Rattle.delivery.proofs.promises.Delivery.{again-valid}
 use Rattle.word.specs.declared.decimal.Decimal.{Decimal}

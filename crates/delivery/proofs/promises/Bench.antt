@@ -7,7 +7,7 @@ use Rattle.settings.specs.SettingsC.{settingsC}
 use Rattle.pid.specs.Record.{freshOf, valid}
 use Rattle.pid.specs.Sample.{lesser, greater, limited, ramped, filtered, derivative, sensedOf, clamped, backCalculated, integrated, actedOf}
 use Rattle.pid.specs.Law.{sampleOf, stepOf, refusalOf}
-use Rattle.delivery.specs.Memory.{isLast, foundBy}
+use Rattle.memory.specs.Memory.{isLast, foundBy}
 use Rattle.delivery.specs.Numbered.{newOf, servedOf, deliveredOf}
 use Rattle.delivery.specs.Bench.{log, played, expected}
 

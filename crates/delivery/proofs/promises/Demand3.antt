@@ -1,5 +1,5 @@
--- DEMAND 3. Its sentences and the statement `Demand3` stand together in specs/Demand3.antt, the walk in specs/Walk.antt; here it
--- is shown.
+-- DEMAND 3. Its sentences and the statement `Demand3` stand together in specs/Demand3.antt, the walk in memory/specs/Walk.antt;
+-- here it is shown.
 use mathlib.Core.Path.{_≡_, refl, subst}
 use mathlib.Core.Bool.{true}
 use mathlib.Core.List.{List, [], _∷_, map}
@@ -18,16 +18,16 @@ use Rattle.command.specs.Command.{same}
 use Rattle.pid.specs.Record.{freshOf, valid, madeOf as Loop·madeOf}
 use Rattle.pid.specs.Sample.{lesser, greater, limited, ramped, filtered, derivative, sensedOf, clamped, backCalculated, integrated, actedOf}
 use Rattle.pid.specs.Law.{sampleOf, stepOf, refusalOf}
-use Rattle.pid.specs.Sequence.{after}
+use Rattle.command.specs.Sequence.{after}
 use Rattle.pid.specs.Run.{unbroken, shares}
 use Rattle.command.proofs.Same.{same-equal, same-self}
 use Rattle.pid.proofs.promises.Demand1.{made-valid}
+use Rattle.memory.specs.Walk.{Delivery, start, kept}
+use Rattle.memory.proofs.Walked.{runs-start, all-answers}
 use Rattle.delivery.specs.declared.numbered.Numbered.{Numbered}
 use Rattle.delivery.specs.Numbered.{newOf, madeOf, validOf}
-use Rattle.delivery.specs.Walk.{Delivery, start, kept}
 use Rattle.delivery.specs.Demand3.{plain, window, handedBack, keptFrom, Demand3, keptOn}
 use Rattle.delivery.specs.Bench.{Row, log}
-use Rattle.delivery.proofs.Walked.{runs-start, all-answers}
 use Rattle.delivery.proofs.Stands.{lastIn, Good, numbered}
 use Rattle.delivery.proofs.Ended.{end-after, delivered-shares}
 

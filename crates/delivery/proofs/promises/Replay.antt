@@ -15,15 +15,15 @@ use Rattle.settings.specs.Settings.{inTable}
 use Rattle.command.specs.declared.Command.the-variants.{Sample}
 use Rattle.settings.specs.SettingsC.{settingsC}
 use Rattle.pid.specs.Record.{freshOf, inReach, inB, valid}
-use Rattle.pid.specs.Sequence.{after, each}
+use Rattle.command.specs.Sequence.{after, each}
 use Rattle.pid.specs.Play.{firstBad}
 use Rattle.pid.proofs.Sound.{holds-of}
 use Rattle.pid.proofs.Turns.{good-before, bad-at-place, all-good}
+use Rattle.memory.specs.Memory.{lastNumber}
+use Rattle.memory.specs.Walk.{Answer}
 use Rattle.delivery.specs.declared.numbered.Numbered.{Numbered}
 use Rattle.delivery.specs.declared.replay.Replayed.{Replayed}
-use Rattle.delivery.specs.Memory.{lastNumber}
 use Rattle.delivery.specs.Numbered.{newOf, memoryOk, validOf}
-use Rattle.delivery.specs.Walk.{Answer}
 use Rattle.delivery.specs.Demand3.{handedBack, answered, standing, keptOn}
 use Rattle.delivery.specs.Replay.{numbered, recordAfter, numbersLeft, replayRefusal, replayedOf, writtenOf}
 use Rattle.delivery.proofs.Ended.{all-valid}

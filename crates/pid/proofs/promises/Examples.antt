@@ -13,7 +13,7 @@ use Rattle.settings.specs.Table.{rows}
 use Rattle.settings.specs.Settings.{inTable}
 use Rattle.pid.specs.Record.{freshOf, valid}
 use Rattle.pid.specs.Law.{sampleOf, stepOf, refusalOf}
-use Rattle.pid.specs.Sequence.{after}
+use Rattle.command.specs.Sequence.{after}
 use Rattle.pid.specs.Run.{obeyed, accepted, switches, between, unbroken, shares, samplesToTarget}
 use Rattle.settings.specs.SettingsC.{settingsC}
 use Rattle.pid.specs.Sample.{lesser, greater, limited, ramped, filtered, derivative, sensedOf, clamped, backCalculated, integrated, actedOf, movedOf}

@@ -11,7 +11,7 @@ use Rattle.whole.proofs.Truth.{by-test}
 use Rattle.command.specs.declared.Command.the-variants.{Sample}
 use Rattle.pid.specs.declared.record.Loop.{Loop}
 use Rattle.pid.specs.Record.{valid}
-use Rattle.pid.specs.Sequence.{after}
+use Rattle.command.specs.Sequence.{after}
 use Rattle.pid.specs.Play.{sampled, afterSamples, firstBad, playRefusal, playedOf, wroteOf}
 use Rattle.pid.specs.Run.{obeyed}
 use Rattle.pid.proofs.Kept.{step-valid}

@@ -10,7 +10,7 @@ use Rattle.pid.specs.Units.{rounded}
 use Rattle.pid.specs.Record.{valid, madeOf}
 use Rattle.pid.specs.Sample.{lesser, greater, limited, ramped, filtered, derivative, sensedOf, clamped, backCalculated, integrated, actedOf}
 use Rattle.pid.specs.Law.{sampleOf, stepOf, refusalOf}
-use Rattle.delivery.specs.Memory.{isLast, foundBy}
+use Rattle.memory.specs.Memory.{isLast, foundBy}
 use Rattle.delivery.specs.Numbered.{servedOf, deliveredOf}
 use Rattle.text.specs.declared.reader.Reading.{Reading}
 use Rattle.word.specs.Decimal.{isSize, hasMinus, unsigned, sizeOf, isDecimal, numberOf, shown}

@@ -3,8 +3,8 @@ use mathlib.Core.Bool.{cond}
 use borrow.Author.Tests.{not-true, not-false}
 use Rattle.whole.proofs.Truth.{so}
 use Rattle.pid.specs.Record.{valid}
-use Rattle.delivery.specs.declared.memory.Found.{Found}
-use Rattle.delivery.specs.declared.memory.Found.the-variants.{Old, Reused, Repeated, Ahead, Next}
+use Rattle.memory.specs.declared.Found.{Found}
+use Rattle.memory.specs.declared.Found.the-variants.{Old, Reused, Repeated, Ahead, Next}
 use Rattle.delivery.specs.Numbered.{brokenOf, servedOf, deliveredOf, settledOf, triedOf}
 use Rattle.delivery.proofs.Served.{broken-memory, by-number}
 use borrow.Author.Needs.{needs}

@@ -1,6 +1,7 @@
-// What is remembered of the deliveries, and what it says of a number: it looks into no loop.
+// What is remembered of the deliveries, and what it says of a number: it looks into no loop. Its definitions are in
+// specs/Memory.antt; specs/Walk.antt has the walk over any law.
 ghost use mathlib.Core.Path.{_≡_};
-ghost use Rattle.delivery.specs.Memory.{isLast, noMemory, remembered, lastOk, foundOf};
+ghost use Rattle.memory.specs.Memory.{isLast, noMemory, remembered, lastOk, foundOf};
 use command::Command;
 
 // The last command kept.

@@ -1,4 +1,4 @@
--- 01's order of the numbers, case by case.
+-- 01's order of the numbers, case by case, and the memory's state rule.
 use Prim.Native.Nat.{ℕ, zero, _+_, _<_}
 use mathlib.Core.Path.{_≡_, refl, sym}
 use mathlib.Core.Bool.{Bool, true, false, _||_}
@@ -6,9 +6,11 @@ use native.Mathlib.Omega.{arith}
 use borrow.Author.Tests.{eq-eqb, ne-eqb, lt-ltb, le-ltb, eqb-true, eqb-false, ltb-false}
 use lib.Dec.{eqb, ltb}
 use Rattle.whole.proofs.Truth.{never, chosen}
-use Rattle.delivery.specs.declared.memory.Found.{Found}
-use Rattle.delivery.specs.declared.memory.Found.the-variants.{Old, Reused, Repeated, Ahead, Next}
-use Rattle.delivery.specs.Memory.{foundBy}
+use Rattle.command.specs.declared.Command.{Command}
+use Rattle.memory.specs.declared.Last.the-variants.{Kept}
+use Rattle.memory.specs.declared.Found.{Found}
+use Rattle.memory.specs.declared.Found.the-variants.{Old, Reused, Repeated, Ahead, Next}
+use Rattle.memory.specs.Memory.{lastOk, foundBy}
 
 pub neither : (a b : Bool) → (a || b) ≡ false → (a ≡ false) × (b ≡ false)
 neither true b e = never (sym e)
@@ -63,3 +65,7 @@ module _ (n last : ℕ) (r : Bool) where
       (λ e. chosen Means r (λ t. (eqb-true n last e, a, t)) (λ _. refl))
       (λ e. let f = eqb-false n last e in
       chosen Means (ltb (last + 1) n) (λ _. refl) (λ g. let h = ltb-false (last + 1) n g in omega arith)))
+
+-- a number above 0 with a command keeps the memory's rule
+pub last-kept : (n : ℕ) (c : Command) → (n ≡ 0 → ⊥) → lastOk n (Kept c) ≡ true
+last-kept n c h = rw (ne-eqb n 0 h)

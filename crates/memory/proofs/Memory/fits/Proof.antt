@@ -1,6 +1,6 @@
 use borrow.Author.Needs.{needs}
-use Rattle.delivery.proofs.memory.Memory.fits.Statement.{statement}
-use Rattle.delivery.proofs.memory.Memory.fits.Tie as tie
+use Rattle.memory.proofs.Memory.fits.Statement.{statement}
+use Rattle.memory.proofs.Memory.fits.Tie as tie
 
 enum-told : tie.Need-enum-told
 enum-told c = search needs

@@ -4,11 +4,11 @@ use mathlib.Core.Bool.{Bool, false, not, cond, _||_}
 use lib.Dec.{eqb, ltb}
 use Rattle.command.specs.declared.Command.{Command}
 use Rattle.command.specs.Command.{same}
-use Rattle.delivery.specs.declared.memory.Last.{Last}
-use Rattle.delivery.specs.declared.memory.Last.the-variants.{Nothing, Kept}
-use Rattle.delivery.specs.declared.memory.Memory.{Memory}
-use Rattle.delivery.specs.declared.memory.Found.{Found}
-use Rattle.delivery.specs.declared.memory.Found.the-variants.{Old, Reused, Repeated, Ahead, Next}
+use Rattle.memory.specs.declared.Last.{Last}
+use Rattle.memory.specs.declared.Last.the-variants.{Nothing, Kept}
+use Rattle.memory.specs.declared.Memory.{Memory}
+use Rattle.memory.specs.declared.Found.{Found}
+use Rattle.memory.specs.declared.Found.the-variants.{Old, Reused, Repeated, Ahead, Next}
 
 -- a number is "32 bits unsigned": 4,294,967,295 is the last
 abbrev pub lastNumber : ℕ

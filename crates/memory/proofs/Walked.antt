@@ -9,8 +9,8 @@ use borrow.Author.Tests.{eqb-true, eqb-false, ltb-true, ltb-false, leb-true, leb
 use lib.Dec.{eqb, ltb, leb}
 use lib.ListN.{length, take}
 use Rattle.whole.proofs.Truth.{both, by-test, chosen, cond-yes, cond-no}
-use Rattle.pid.specs.Sequence.{after, each}
-use Rattle.delivery.specs.Walk.{Law, Delivery, Answer, Kept, Walk, keeps, keptAnswer, repeatAnswer, keeping, namedRefusal, refusedAnswer, answerTo, onward, kept}
+use Rattle.command.specs.Sequence.{after, each}
+use Rattle.memory.specs.Walk.{Law, Delivery, Answer, Kept, Walk, keeps, keptAnswer, repeatAnswer, keeping, namedRefusal, refusedAnswer, answerTo, onward, kept}
 
 abbrev pub Sent : Law → Type 0
 Sent L = Delivery (L .Command)

@@ -1,10 +1,10 @@
 use mathlib.Core.Path.{sym}
 use native.Mathlib.Omega.{arith}
 use Rattle.whole.proofs.Truth.{so}
-use Rattle.delivery.proofs.Order.{number-zero, number-old, number-repeated, number-reused, number-ahead, number-next}
+use Rattle.memory.proofs.Order.{number-zero, number-old, number-repeated, number-reused, number-ahead, number-next}
 use borrow.Author.Needs.{needs}
-use Rattle.delivery.proofs.memory.Memory.find.Statement.{statement}
-use Rattle.delivery.proofs.memory.Memory.find.Tie as tie
+use Rattle.memory.proofs.Memory.find.Statement.{statement}
+use Rattle.memory.proofs.Memory.find.Tie as tie
 
 returns : tie.Need-returns
 returns c = sym (number-zero _ _ _ (c .if1 .taken))

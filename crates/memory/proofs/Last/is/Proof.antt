@@ -1,7 +1,7 @@
 use borrow.Author.Needs.{needs}
-use Rattle.delivery.specs.Memory.{isLast}
-use Rattle.delivery.proofs.memory.Last.is.Statement.{statement}
-use Rattle.delivery.proofs.memory.Last.is.Tie as tie
+use Rattle.memory.specs.Memory.{isLast}
+use Rattle.memory.proofs.Last.is.Statement.{statement}
+use Rattle.memory.proofs.Last.is.Tie as tie
 
 enum-told : tie.Need-enum-told
 enum-told c = search needs
