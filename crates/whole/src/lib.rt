@@ -1,4 +1,4 @@
-// Signed whole numbers: two tests that other crates share. The laws that their proofs cite are in proofs/.
+// Signed whole numbers: two tests that other crates share. What their definitions and proofs share is in specs/ and proofs/.
 ghost use mathlib.Core.Path.{_≡_};
 ghost use Rattle.whole.specs.Numbers.{eqZ, inside};
 

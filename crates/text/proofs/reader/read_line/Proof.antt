@@ -58,19 +58,19 @@ held c =
     let f : SFits w32 (c .before .before .value .given .0 .0) = search needs in
     rw (toZ-ofZ f) at (c .holds .ensures)
 
-returns : tie.Need-returns
-unfolding ended
-returns c =
-    let s = c .before .before .before .before .before .before .before .before in
-    let e = ap (λ (n : ℕ). ltb n (length (now (s .args .rest)))) (sym (s .pre .1)) in
-    sym (line-stops (s .args .row) (now (s .args .rest)) (e ∙ not-true _ (c .if1 .taken)))
-
 -- the line feed is there
 closed : (c : tie.Else1) → ended (now (c .before .before .before .before .before .before .before .before .args .rest)) ≡ true
 unfolding ended
 closed c =
     let s = c .before .before .before .before .before .before .before .before in
     ap (λ (n : ℕ). ltb n (length (now (s .args .rest)))) (sym (s .pre .1)) ∙ not-false _ (c .if1 .left)
+
+returns : tie.Need-returns
+unfolding ended
+returns c =
+    let s = c .before .before .before .before .before .before .before .before in
+    let e = ap (λ (n : ℕ). ltb n (length (now (s .args .rest)))) (sym (s .pre .1)) in
+    sym (line-stops (s .args .row) (now (s .args .rest)) (e ∙ not-true _ (c .if1 .taken)))
 
 returns-2 : tie.Need-returns-2
 returns-2 c =
