@@ -1,5 +1,4 @@
 // 01's program: each line of the file is a sample.
-ghost use lib.ListN.{length};
 ghost use Rattle.answer.specs.Verdict.{answered, Judges};
 ghost use Rattle.answer.specs.Oven.{outputLine, byAnswer, bySample, sampleLine};
 use crate::verdict::Judged;

@@ -1,4 +1,3 @@
-use mathlib.Core.Path.{ap}
 use native.Mathlib.Omega.{arith}
 use Rattle.whole.proofs.Truth.{cond-yes, cond-no}
 use Rattle.answer.proofs.Verdicts.{judges-by, judged}

@@ -7,7 +7,7 @@ use borrow.Author.Tests.{lt-ltb, le-ltb}
 use denote.Ref.{now}
 use lib.ListN.{length, take, drop, length-drop, drop-of-length-le}
 use lib.Dec.{ltb}
-use lib.Seq.{sets, length-sets, take-all, length-take-le}
+use lib.Seq.{sets, take-all, length-take-le}
 use borrow.Rule.Slice.PartMut.{putMid}
 use Rattle.whole.proofs.Lists.{part-left}
 use Rattle.stream.specs.Run.{lineRoom}
