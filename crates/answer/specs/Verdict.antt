@@ -23,7 +23,8 @@ answered l text = record { code = 0; state = l; text = text }
 abbrev pub judgedOf : Verdict → Judged
 judgedOf v = record { code = v .code; state = v .state; len = length (v .text) }
 
--- how much longer than its line an answer is at most
+-- how much longer than its line an answer is at most: ` code=` and 3 digits, ` output=` and 11 bytes, ` last=` and 10 digits,
+-- a line feed
 abbrev pub answerRoom : ℕ
 answerRoom = 45
 

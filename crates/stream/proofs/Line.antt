@@ -29,13 +29,13 @@ module _ (r : Run) (e : r .ended ≡ false) where
   unfolding byteOf
   byte-feed = cond-no _ _ e
 
-  byte-kept : (b : ℕ) → eqb b 10 ≡ false → r .len < 80 → byteOf r b ≡ idle (keptOf r b)
+  byte-kept : (b : ℕ) → eqb b 10 ≡ false → r .len < lineMost → byteOf r b ≡ idle (keptOf r b)
   unfolding byteOf keeping
-  byte-kept b f h = cond-no _ _ e ∙ cond-no _ _ f ∙ cond-yes _ _ (lt-ltb (r .len) 80 h)
+  byte-kept b f h = cond-no _ _ e ∙ cond-no _ _ f ∙ cond-yes _ _ (lt-ltb (r .len) lineMost h)
 
-  byte-long : (b : ℕ) → eqb b 10 ≡ false → 80 ≤ r .len → byteOf r b ≡ refusing r 14
+  byte-long : (b : ℕ) → eqb b 10 ≡ false → lineMost ≤ r .len → byteOf r b ≡ refusing r 14
   unfolding byteOf keeping
-  byte-long b f h = cond-no _ _ e ∙ cond-no _ _ f ∙ cond-no _ _ (le-ltb (r .len) 80 h)
+  byte-long b f h = cond-no _ _ e ∙ cond-no _ _ f ∙ cond-no _ _ (le-ltb (r .len) lineMost h)
 
 -- ---- a step, and bytes after it
 
@@ -71,27 +71,27 @@ grown-step : (r : Run) (w : List ℕ) (v : Verdict) → lineStep (grownOf r w) v
 grown-step r w v = refl
 
 -- of a line that lies whole in a piece nothing was carried
-pub grown-word : (r : Run) (w : List ℕ) → r .len ≡ 0 → length (r .bytes) ≡ 80 → length w ≤ 80 → wordOf (grownOf r w) ≡ w
+pub grown-word : (r : Run) (w : List ℕ) → r .len ≡ 0 → length (r .bytes) ≡ lineMost → length w ≤ lineMost → wordOf (grownOf r w) ≡ w
 grown-word r w e k h = rw e (text-part (r .bytes) w (0 + length w) (zero-add (length w)) (omega arith))
 
 -- ---- its bytes, while there is room, and past it
 
-short-line : (r : Run) (w : List ℕ) → r .ended ≡ false → plain w ≡ true → r .len + length w ≤ 80 → passing r w ≡ idle (grownOf r w)
+short-line : (r : Run) (w : List ℕ) → r .ended ≡ false → plain w ≡ true → r .len + length w ≤ lineMost → passing r w ≡ idle (grownOf r w)
 short-line r [] e p h = ap idle (grown-none r)
 short-line r (b ∷ w) e p h =
     let q = both (not (eqb b 10)) (plain w) p in
     ap (then w) (byte-kept r e b (not-true (eqb b 10) (q .0)) (omega arith))
     ∙ short-line (keptOf r b) w e (q .1) (omega arith) ∙ ap idle (grown-more r b w)
 
-long-line : (r : Run) (w : List ℕ) → r .ended ≡ false → plain w ≡ true → 0 < length w → 80 < r .len + length w → passing r w ≡ refusing r 14
+long-line : (r : Run) (w : List ℕ) → r .ended ≡ false → plain w ≡ true → 0 < length w → lineMost < r .len + length w → passing r w ≡ refusing r 14
 long-line r [] e p h k = absurd (omega arith)
 long-line r (b ∷ w) e p h k =
     let q = both (not (eqb b 10)) (plain w) p in
     let f = not-true (eqb b 10) (q .0) in
-    by-test (ltb (r .len) 80)
-    (λ t. let l = ltb-true (r .len) 80 t in
+    by-test (ltb (r .len) lineMost)
+    (λ t. let l = ltb-true (r .len) lineMost t in
     ap (then w) (byte-kept r e b f l) ∙ long-line (keptOf r b) w e (q .1) (omega arith) (omega arith))
-    (λ t. ap (then w) (byte-long r e b f (ltb-false (r .len) 80 t)) ∙ refused-then r 14 w)
+    (λ t. ap (then w) (byte-long r e b f (ltb-false (r .len) lineMost t)) ∙ refused-then r 14 w)
 
 -- ---- the next bytes of a line, without and with its line feed
 

@@ -59,7 +59,7 @@ told journal l n (w ∷ ws) rest = toldBy n (λ (m : Numbered). told journal m (
 pub record Ready (r : Run) : Type 0 where
   pub going : r .ended ≡ false
   pub none : r .len ≡ 0
-  pub room : length (r .bytes) ≡ 80
+  pub room : length (r .bytes) ≡ lineMost
 
 -- what is written where the file ends after a step
 closing : Step → List ℕ
@@ -164,7 +164,7 @@ unfolding unsigned
 unsigned-long w =
     chosen (λ (x : List ℕ). length w ≤ length x + 1) (hasMinus w) (λ _. rw length-drop (omega arith)) (λ _. omega arith)
 
-long-wrong : (w : List ℕ) → 80 < length w → decimalOf w ≡ Wrong
+long-wrong : (w : List ℕ) → lineMost < length w → decimalOf w ≡ Wrong
 long-wrong w h =
     by-test (isSize mostDigits (unsigned w)) (λ e. absurd (omega (arith, sized mostDigits (unsigned w) e .few, unsigned-long w))) (no-size w)
 

@@ -7,6 +7,7 @@ use lib.Seq.{sets}
 use mir.Facts.{toZ-ofZ}
 use Rattle.word.specs.Decimal.{shown, decimal}
 use Rattle.word.proofs.Shows.{shown-room, decimal-room}
+use Rattle.answer.specs.Verdict.{answerRoom}
 use Rattle.answer.specs.Journal.{codeKey, outputKey, lastKey, answerText}
 use Rattle.word.proofs.Puts.{Puts, puts-none, puts-more, puts-all, code-room}
 use native.Mathlib.Omega.{arith}
@@ -34,7 +35,7 @@ few : (c : tie.After-put-unsigned) → c .put-unsigned .result ≤ 3
 few c = let s = c .before .before .before .before .before .before .before .before in rw (c .put-unsigned .ensures .0) (code-room (s .args .code) (s .fits .code .fits))
 
 -- no place passes 64 bits
-all-fit : (c : tie.After-put-unsigned) → c .before .before .before .before .before .before .before .before .args .at + 45 < 2 ^ 64
+all-fit : (c : tie.After-put-unsigned) → c .before .before .before .before .before .before .before .before .args .at + answerRoom < 2 ^ 64
 all-fit c = omega arith
 
 told : (c : tie.After-put-signed) →

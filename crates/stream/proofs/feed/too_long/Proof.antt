@@ -6,17 +6,18 @@ use denote.Ref.{now}
 use lib.Dec.{ltb}
 use lib.ListN.{length}
 use Rattle.whole.proofs.Truth.{by-test}
+use Rattle.stream.specs.Run.{lineMost}
 use Rattle.stream.proofs.feed.too_long.Statement.{statement}
 use Rattle.stream.proofs.feed.too_long.Tie as tie
 
 returns : tie.Need-returns
-returns c = sym (lt-ltb 80 (c .before .args .len + length (now (c .before .args .part))) (omega arith))
+returns c = sym (lt-ltb lineMost (c .before .args .len + length (now (c .before .args .part))) (omega arith))
 
 -- what is left of the room is too little where the sum passes it
-passes : (n m : ℕ) → n ≤ 80 → ltb (80 - n) m ≡ ltb 80 (n + m)
+passes : (n m : ℕ) → n ≤ lineMost → ltb (lineMost - n) m ≡ ltb lineMost (n + m)
 passes n m h =
-    by-test (ltb (80 - n) m) (λ t. t ∙ sym (lt-ltb 80 (n + m) (omega (arith, ltb-true (80 - n) m t))))
-    (λ t. t ∙ sym (le-ltb 80 (n + m) (omega (arith, ltb-false (80 - n) m t))))
+    by-test (ltb (lineMost - n) m) (λ t. t ∙ sym (lt-ltb lineMost (n + m) (omega (arith, ltb-true (lineMost - n) m t))))
+    (λ t. t ∙ sym (le-ltb lineMost (n + m) (omega (arith, ltb-false (lineMost - n) m t))))
 
 returns-2 : tie.Need-returns-2
 returns-2 c = passes _ _ (c .if1 .left)

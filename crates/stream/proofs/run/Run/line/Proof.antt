@@ -6,7 +6,7 @@ use denote.Ref.{now}
 use lib.ListN.{length}
 use lib.Seq.{length-sets, length-take-le}
 use Rattle.stream.specs.declared.run.Run.{Run}
-use Rattle.stream.specs.Run.{lineStep, wordOf}
+use Rattle.stream.specs.Run.{lineMost, lineStep, wordOf}
 use Rattle.answer.specs.Judge.{judgedBy}
 use Rattle.stream.proofs.Steps.{step-by}
 use Rattle.stream.proofs.Line.{grown-word}
@@ -25,8 +25,8 @@ returns c =
     let s = c .before .before .before .before .before .before .before .before in
     let r = s .args .self in
     let w = now (s .args .part) in
-    let n : length (r .bytes) ≡ 80 = search needs in
-    let h : length w ≤ 80 = omega arith in
+    let n : length (r .bytes) ≡ lineMost = search needs in
+    let h : length w ≤ lineMost = omega arith in
     step-by (ap (λ (x : List ℕ). lineStep r (judgedBy (r .journal) (r .state) x)) (grown-word r w (c .before .before .before .before .if1 .taken) n h)) (c .before .before .judge .ensures)
 
 grown-requires : tie.Need-grown-requires
@@ -38,7 +38,7 @@ joined c =
     let s = c .before .before .before .before .before in
     let r = s .args .self in
     let w = now (s .args .part) in
-    let n : length (r .bytes) ≡ 80 = search needs in
+    let n : length (r .bytes) ≡ lineMost = search needs in
     let e = c .grown .ensures in
     omega (arith, ap (λ (x : Run). x .len) e, ap (λ (x : Run). length (x .bytes)) e ∙ length-sets (r .bytes) (r .len) w)
 
