@@ -18,12 +18,12 @@ use Rattle.pid.specs.Run.{accepted, unbroken, shares}
 use Rattle.pid.proofs.Shares.{run-shares}
 use Rattle.memory.specs.declared.Last.{Last}
 use Rattle.memory.specs.declared.Last.the-variants.{Nothing, Kept as Last·Kept}
-use Rattle.memory.specs.Memory.{lastOk}
+use Rattle.memory.specs.Memory.{lastOk, window, lastOf}
 use Rattle.memory.specs.Walk.{Walk, keeps, keeping, onward, answerTo, kept}
 use Rattle.memory.proofs.Walked.{Sent, Runs, walked-state, walked-count, ends, all-answers}
 use Rattle.delivery.specs.declared.numbered.Numbered.{Numbered}
 use Rattle.delivery.specs.Numbered.{recordOf, memoryOk, validOf}
-use Rattle.delivery.specs.Demand3.{plain, window, answered, handedBack, lastOf, recalled, standing, keptOn}
+use Rattle.delivery.specs.Demand3.{plain, answered, handedBack, recalled, standing, keptOn}
 use Rattle.delivery.proofs.Stands.{lastIn, standsAt, Newest, Good, numbered}
 use Rattle.delivery.proofs.Served.{delivered-valid}
 

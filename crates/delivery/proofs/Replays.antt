@@ -20,12 +20,13 @@ use Rattle.pid.specs.Play.{afterSamples, outputsOf, firstBad, playRefusal, play
 use Rattle.pid.proofs.Obeys.{sample-taken}
 use Rattle.pid.proofs.Turns.{first-good}
 use Rattle.pid.proofs.Plays.{after-commands, played-refused, played-done, playable}
+use Rattle.memory.specs.Memory.{window, lastOf}
 use Rattle.memory.specs.declared.Last.{Last}
 use Rattle.memory.specs.declared.Last.the-variants.{Kept as Last·Kept}
 use Rattle.memory.specs.Walk.{Delivery, Answer, Walk, keeps, keeping, keptAnswer, onward, answerTo, kept}
 use Rattle.delivery.specs.declared.numbered.Numbered.{Numbered}
 use Rattle.delivery.specs.Numbered.{recordOf, memoryOk, validOf}
-use Rattle.delivery.specs.Demand3.{plain, window, lastOf, standing}
+use Rattle.delivery.specs.Demand3.{plain, standing}
 use Rattle.delivery.specs.Replay.{numbered, recordAfter, deliveredOutputs, numbersLeft, replayRefusal, doneOf, refusedOf}
 use Rattle.delivery.proofs.Ended.{end-from, answers-from}
 use Rattle.delivery.proofs.ReplayOrder.{as-played, Replays, refuses, done}

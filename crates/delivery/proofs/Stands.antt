@@ -17,14 +17,14 @@ use Rattle.memory.specs.declared.Last.{Last}
 use Rattle.memory.specs.declared.Last.the-variants.{Nothing, Kept as Last·Kept}
 use Rattle.memory.specs.declared.Found.{Found}
 use Rattle.memory.specs.declared.Found.the-variants.{Old, Reused, Repeated, Ahead, Next}
-use Rattle.memory.specs.Memory.{lastOk, isLast, foundBy, foundOf}
+use Rattle.memory.specs.Memory.{lastOk, isLast, foundBy, foundOf, window}
 use Rattle.memory.specs.Walk.{Answer, Kept, Walk, keeps, keeping, onward}
 use Rattle.memory.proofs.Order.{number-zero, number-old, number-repeated, number-reused, number-ahead, number-next, Means, means}
 use Rattle.memory.proofs.Walked.{Sent, Runs, foundAt, refusing, looked, tried, served, Engine, number-next as kept-next}
 use Rattle.delivery.specs.declared.numbered.Numbered.{Numbered}
 use Rattle.delivery.specs.declared.numbered.Delivered.{Delivered}
 use Rattle.delivery.specs.Numbered.{recordOf, keptOf, servedOf, deliveredOf}
-use Rattle.delivery.specs.Demand3.{plain, window, answerIn, answered, handedBack}
+use Rattle.delivery.specs.Demand3.{plain, answerIn, answered, handedBack}
 
 -- what a memory holds of the last kept deliveries
 unfoldable pub lastIn : List (Kept plain) → Last

@@ -5,7 +5,6 @@
 --
 -- The walk stands in memory/specs/Walk.antt, over any law; here are 01's plain law, what `deliver` makes of a list, and the
 -- demand itself.
-use Prim.Native.Nat.{ℕ}
 use mathlib.Core.Path.{_≡_}
 use mathlib.Core.List.{List, [], _∷_}
 use lib.IntN.{ℤ}
@@ -17,6 +16,7 @@ use Rattle.pid.specs.Law.{refusalOf, stepOf}
 use Rattle.command.specs.Sequence.{after, each}
 use Rattle.memory.specs.declared.Last.{Last}
 use Rattle.memory.specs.declared.Last.the-variants.{Nothing, Kept as Last·Kept}
+use Rattle.memory.specs.Memory.{window, lastOf}
 use Rattle.memory.specs.Walk.{Law, Delivery, Answer, Kept, Walk, start, onward, answerTo, kept}
 use Rattle.delivery.specs.declared.numbered.Numbered.{Numbered}
 use Rattle.delivery.specs.declared.numbered.Delivered.{Delivered}
@@ -34,10 +34,6 @@ plain = record {
   output = λ l. l .u;
 }
 
--- how many kept deliveries are remembered: "an exact repeat of the latest kept one"
-unfoldable pub window : ℕ
-window = 1
-
 -- the answer in what `deliver` returns
 abbrev pub answerIn : Delivered → Answer ℤ
 answerIn r = record { code = r .code; output = r .output; number = r .number }
@@ -51,11 +47,6 @@ handedBack s d = deliveredOf s (d .number) (d .command) .state
 
 abbrev pub keptFrom : Loop → List (Delivery Command) → List Command
 keptFrom l ds = kept plain window (start plain window l) ds
-
--- the last of some commands, and m where there is none
-unfoldable pub lastOf : Last → List Command → Last
-lastOf m [] = m
-lastOf m (c ∷ cs) = lastOf (Last·Kept c) cs
 
 -- DEMAND 3 of the deliveries ds to a record s
 pub record Demand3 (s : Numbered) (ds : List (Delivery Command)) : Type 0 where

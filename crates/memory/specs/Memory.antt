@@ -1,6 +1,7 @@
 -- 01, "Numbered delivery": what is remembered, and the order of the numbers. No loop is looked into here.
 use Prim.Native.Nat.{ℕ, _+_}
 use mathlib.Core.Bool.{Bool, false, not, cond, _||_}
+use mathlib.Core.List.{List, [], _∷_}
 use lib.Dec.{eqb, ltb}
 use Rattle.command.specs.declared.Command.{Command}
 use Rattle.command.specs.Command.{same}
@@ -21,6 +22,15 @@ noMemory = record { number = 0; last = Nothing }
 -- "accepted, the number and command are remembered"
 abbrev pub remembered : ℕ → Command → Memory
 remembered number c = record { number = number; last = Kept c }
+
+-- how many kept deliveries are remembered: "an exact repeat of the latest kept one"
+unfoldable pub window : ℕ
+window = 1
+
+-- the last of some commands, and m where there is none
+unfoldable pub lastOf : Last → List Command → Last
+lastOf m [] = m
+lastOf m (c ∷ cs) = lastOf (Kept c) cs
 
 -- a state rule: "no last command exactly when the last number is 0"
 abbrev pub lastOk : ℕ → Last → Bool

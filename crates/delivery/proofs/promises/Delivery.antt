@@ -21,12 +21,12 @@ use Rattle.pid.specs.Law.{refusalOf, stepOf}
 use Rattle.command.specs.Sequence.{after}
 use Rattle.pid.proofs.Sound.{holds-of}
 use Rattle.pid.proofs.promises.Demand1 as law
-use Rattle.memory.specs.Memory.{lastNumber, isLast}
+use Rattle.memory.specs.Memory.{lastNumber, isLast, lastOf}
 use Rattle.memory.specs.Walk.{Delivery}
 use Rattle.delivery.specs.declared.numbered.Numbered.{Numbered}
 use Rattle.delivery.specs.declared.numbered.Delivered.{Delivered}
 use Rattle.delivery.specs.Numbered.{recordOf, newOf, madeOf, blankOf, memoryOk, validOf, answerOf, keptOf, deliveredOf}
-use Rattle.delivery.specs.Demand3.{handedBack, lastOf, keptOn}
+use Rattle.delivery.specs.Demand3.{handedBack, keptOn}
 use Rattle.delivery.specs.Bench.{atLimit}
 use Rattle.delivery.proofs.Served.{by-delivery, kept-one, kept-twice, delivered-valid}
 use Rattle.delivery.proofs.Ended.{end-from}

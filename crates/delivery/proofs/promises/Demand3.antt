@@ -22,11 +22,12 @@ use Rattle.command.specs.Sequence.{after}
 use Rattle.pid.specs.Run.{unbroken, shares}
 use Rattle.command.proofs.Same.{same-equal, same-self}
 use Rattle.pid.proofs.promises.Demand1.{made-valid}
+use Rattle.memory.specs.Memory.{window}
 use Rattle.memory.specs.Walk.{Delivery, start, kept}
 use Rattle.memory.proofs.Walked.{runs-start, all-answers}
 use Rattle.delivery.specs.declared.numbered.Numbered.{Numbered}
 use Rattle.delivery.specs.Numbered.{newOf, madeOf, validOf}
-use Rattle.delivery.specs.Demand3.{plain, window, handedBack, keptFrom, Demand3, keptOn}
+use Rattle.delivery.specs.Demand3.{plain, handedBack, keptFrom, Demand3, keptOn}
 use Rattle.delivery.specs.Bench.{Row, log}
 use Rattle.delivery.proofs.Stands.{lastIn, Good, numbered}
 use Rattle.delivery.proofs.Ended.{end-after, delivered-shares}
