@@ -10,6 +10,7 @@ use borrow.Author.Tests.{lt-ltb, le-ltb, ltb-true, ltb-false, not-true}
 use lib.Dec.{eqb, ltb}
 use lib.ListN.{length}
 use Rattle.whole.proofs.Truth.{both, by-test, cond-yes, cond-no}
+use Rattle.word.specs.End.{feed}
 use Rattle.word.proofs.Stores.{text-part}
 use Rattle.answer.specs.Verdict.{Verdict}
 use Rattle.answer.specs.Judge.{judgedBy}
@@ -25,15 +26,15 @@ unfolding byteOf
 byte-over r b e = cond-yes _ _ e
 
 module _ (r : Run) (e : r .ended ≡ false) where
-  byte-feed : byteOf r 10 ≡ judging r
+  byte-feed : byteOf r feed ≡ judging r
   unfolding byteOf
   byte-feed = cond-no _ _ e
 
-  byte-kept : (b : ℕ) → eqb b 10 ≡ false → r .len < lineMost → byteOf r b ≡ idle (keptOf r b)
+  byte-kept : (b : ℕ) → eqb b feed ≡ false → r .len < lineMost → byteOf r b ≡ idle (keptOf r b)
   unfolding byteOf keeping
   byte-kept b f h = cond-no _ _ e ∙ cond-no _ _ f ∙ cond-yes _ _ (lt-ltb (r .len) lineMost h)
 
-  byte-long : (b : ℕ) → eqb b 10 ≡ false → lineMost ≤ r .len → byteOf r b ≡ refusing r 14
+  byte-long : (b : ℕ) → eqb b feed ≡ false → lineMost ≤ r .len → byteOf r b ≡ refusing r 14
   unfolding byteOf keeping
   byte-long b f h = cond-no _ _ e ∙ cond-no _ _ f ∙ cond-no _ _ (le-ltb (r .len) lineMost h)
 
@@ -79,15 +80,15 @@ grown-word r w e k h = rw e (text-part (r .bytes) w (0 + length w) (zero-add (le
 short-line : (r : Run) (w : List ℕ) → r .ended ≡ false → plain w ≡ true → r .len + length w ≤ lineMost → passing r w ≡ idle (grownOf r w)
 short-line r [] e p h = ap idle (grown-none r)
 short-line r (b ∷ w) e p h =
-    let q = both (not (eqb b 10)) (plain w) p in
-    ap (then w) (byte-kept r e b (not-true (eqb b 10) (q .0)) (omega arith))
+    let q = both (not (eqb b feed)) (plain w) p in
+    ap (then w) (byte-kept r e b (not-true (eqb b feed) (q .0)) (omega arith))
     ∙ short-line (keptOf r b) w e (q .1) (omega arith) ∙ ap idle (grown-more r b w)
 
 long-line : (r : Run) (w : List ℕ) → r .ended ≡ false → plain w ≡ true → 0 < length w → lineMost < r .len + length w → passing r w ≡ refusing r 14
 long-line r [] e p h k = absurd (omega arith)
 long-line r (b ∷ w) e p h k =
-    let q = both (not (eqb b 10)) (plain w) p in
-    let f = not-true (eqb b 10) (q .0) in
+    let q = both (not (eqb b feed)) (plain w) p in
+    let f = not-true (eqb b feed) (q .0) in
     by-test (ltb (r .len) lineMost)
     (λ t. let l = ltb-true (r .len) lineMost t in
     ap (then w) (byte-kept r e b f l) ∙ long-line (keptOf r b) w e (q .1) (omega arith) (omega arith))
@@ -104,23 +105,23 @@ part-passing r w p h =
     (λ t. short-line r w e p (ltb-false lineMost (r .len + length w) t) ∙ sym (cond-no _ _ e ∙ cond-no _ _ t)))
 
 -- a line feed that comes next
-feed-next : (r : Run) → r .ended ≡ false → then [] (byteOf r 10) ≡ judging r
+feed-next : (r : Run) → r .ended ≡ false → then [] (byteOf r feed) ≡ judging r
 feed-next r e = ap (then []) (byte-feed r e) ∙ then-none (judging r)
 
-line-going : (r : Run) (w : List ℕ) → r .ended ≡ false → plain w ≡ true → passing r (w ++ (10 ∷ [])) ≡ judging (grownOf r w)
+line-going : (r : Run) (w : List ℕ) → r .ended ≡ false → plain w ≡ true → passing r (w ++ (feed ∷ [])) ≡ judging (grownOf r w)
 unfolding judging
 line-going r [] e p = feed-next r e ∙ ap judging (grown-none r)
 line-going r (b ∷ w) e p =
     let n = r .len + length (b ∷ w) in
-    passing-cut r (b ∷ w) (10 ∷ [])
+    passing-cut r (b ∷ w) (feed ∷ [])
     ∙ by-test (ltb lineMost n)
-    (λ t. ap (then (10 ∷ [])) (long-line r (b ∷ w) e p (omega arith) (ltb-true lineMost n t)) ∙ refused-then r 14 (10 ∷ []) ∙ sym (cond-yes _ _ t))
-    (λ t. ap (then (10 ∷ [])) (short-line r (b ∷ w) e p (ltb-false lineMost n t)) ∙ feed-next (grownOf r (b ∷ w)) e)
+    (λ t. ap (then (feed ∷ [])) (long-line r (b ∷ w) e p (omega arith) (ltb-true lineMost n t)) ∙ refused-then r 14 (feed ∷ []) ∙ sym (cond-yes _ _ t))
+    (λ t. ap (then (feed ∷ [])) (short-line r (b ∷ w) e p (ltb-false lineMost n t)) ∙ feed-next (grownOf r (b ∷ w)) e)
 
-pub line-passing : (r : Run) (w : List ℕ) → plain w ≡ true → passing r (w ++ (10 ∷ [])) ≡ lineOf r w true
+pub line-passing : (r : Run) (w : List ℕ) → plain w ≡ true → passing r (w ++ (feed ∷ [])) ≡ lineOf r w true
 unfolding lineOf judging
 line-passing r w p =
-    by-test (r .ended) (λ e. over-passing r (w ++ (10 ∷ [])) e ∙ sym (cond-yes _ _ e))
+    by-test (r .ended) (λ e. over-passing r (w ++ (feed ∷ [])) e ∙ sym (cond-yes _ _ e))
     (λ e. line-going r w e p
     ∙ ap (cond (ltb lineMost (r .len + length w)) (refusing r 14)) (grown-step r w (judgedBy (r .journal) (r .state) (wordOf (grownOf r w))))
     ∙ sym (cond-no _ _ e))

@@ -6,6 +6,7 @@ use mathlib.Core.List.{List, [], _∷_, _++_}
 use lib.Dec.{eqb, ltb, leb}
 use lib.ListN.{length, take, drop}
 use lib.Seq.{sets}
+use Rattle.word.specs.End.{feed}
 use Rattle.answer.specs.Judge.{judgedBy}
 use Rattle.stream.specs.declared.run.Run.{Run}
 use Rattle.stream.specs.declared.feed.Ran.{Ran}
@@ -13,7 +14,7 @@ use Rattle.stream.specs.Run.{Step, lineRoom, lineMost, refusing, wordOf,
 
 -- ---- one byte
 
--- a line feed (byte 10) ends the line under way
+-- a line feed ends the line under way
 unfoldable pub judging : Run → Step
 judging r = cond (ltb lineMost (r .len)) (refusing r 14) (lineStep r (judgedBy (r .journal) (r .state) (wordOf r)))
 
@@ -22,7 +23,7 @@ abbrev pub idle : Run → Step
 idle r = record { run = r; text = [] }
 
 unfoldable pub byteOf : Run → ℕ → Step
-byteOf r b = cond (r .ended) (idle r) (cond (eqb b 10) (judging r) (keeping r b))
+byteOf r b = cond (r .ended) (idle r) (cond (eqb b feed) (judging r) (keeping r b))
 
 -- ---- a text of bytes
 
@@ -42,7 +43,7 @@ passing r s = record { run = after r s; text = written r s }
 -- no line feed among these bytes
 abbrev pub plain : List ℕ → Bool
 plain [] = true
-plain (b ∷ w) = not (eqb b 10) && plain w
+plain (b ∷ w) = not (eqb b feed) && plain w
 
 -- the line under way with more bytes of it
 abbrev pub grownOf : Run → List ℕ → Run

@@ -11,6 +11,7 @@ use lib.ListN.{length, length-drop}
 use Rattle.whole.proofs.Truth.{both, by-test, chosen, cond-yes, cond-no}
 use Rattle.delivery.specs.declared.numbered.Numbered.{Numbered}
 use Rattle.delivery.specs.Numbered.{blankOf}
+use Rattle.word.specs.End.{feed}
 use Rattle.word.specs.declared.decimal.Decimal.the-variants.{Wrong}
 use Rattle.word.specs.Decimal.{mostDigits, isSize, hasMinus, unsigned, decimalOf}
 use Rattle.text.specs.Reader.{readText}
@@ -34,7 +35,7 @@ allPlain (w ∷ ws) = plain w && allPlain ws
 -- the lines, each with its line feed, and a rest without one
 abbrev pub fileOf : List (List ℕ) → List ℕ → List ℕ
 fileOf [] rest = rest
-fileOf (w ∷ ws) rest = w ++ (10 ∷ fileOf ws rest)
+fileOf (w ∷ ws) rest = w ++ (feed ∷ fileOf ws rest)
 
 -- a line of more than 80 bytes is longer than any well-formed one
 abbrev pub judgedLine : Bool → Numbered → List ℕ → Verdict
@@ -129,8 +130,8 @@ module _ (rest : List ℕ) (p : plain rest ≡ true) where
   lines-told r (w ∷ ws) g q =
       let b = both (plain w) (allPlain ws) q in
       let s = fileOf ws rest in
-      ap (runOver r) (sym (append-assoc w (10 ∷ []) s))
-      ∙ run-cut r (w ++ (10 ∷ [])) s
+      ap (runOver r) (sym (append-assoc w (feed ∷ []) s))
+      ∙ run-cut r (w ++ (feed ∷ [])) s
       ∙ ap (λ (x : Step). x .text ++ runOver (x .run) s) (line-passing r w (b .0) ∙ ready-line r w g)
       ∙ line-told r ws (judgedLine (r .journal) (r .state) w) (λ l. lines-told (nextOf r l) ws (next-ready r l g) (b .1))
 

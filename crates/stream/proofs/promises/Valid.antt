@@ -15,6 +15,7 @@ use Rattle.delivery.specs.declared.numbered.Numbered.{Numbered}
 use Rattle.delivery.specs.Numbered.{validOf}
 use Rattle.delivery.proofs.promises.Delivery.{made-valid, again-valid}
 use Rattle.text.specs.Reader.{readText}
+use Rattle.word.specs.End.{feed}
 use Rattle.answer.specs.Judge.{judgedBy}
 use Rattle.answer.proofs.promises.Verdict.{judged-valid}
 use Rattle.stream.specs.declared.run.Run.{Run}
@@ -38,7 +39,7 @@ module _ (r : Run) (v : validOf (r .state) ≡ true) where
   unfolding byteOf keeping
   byte-valid b =
       chosen Good (r .ended) (λ _. v)
-      (λ _. chosen Good (eqb b 10) (λ _. judging-good) (λ _. chosen Good (ltb (r .len) lineMost) (λ _. v) (λ _. v)))
+      (λ _. chosen Good (eqb b feed) (λ _. judging-good) (λ _. chosen Good (ltb (r .len) lineMost) (λ _. v) (λ _. v)))
 
 made-right : (s : Settings) → settingsRefusal s ≡ 0 → madeOf s .code ≡ 0
 unfolding madeOf

@@ -5,6 +5,7 @@ use denote.Ref.{now}
 use lib.ListN.{length}
 use lib.Seq.{sets}
 use mir.Facts.{toZ-ofZ}
+use Rattle.word.specs.End.{feed}
 use Rattle.word.specs.Decimal.{shown, decimal}
 use Rattle.word.proofs.Shows.{shown-room, decimal-room}
 use Rattle.answer.specs.Verdict.{answerRoom}
@@ -119,7 +120,7 @@ returns c =
     let q4 = puts-more q3 (decimal (s .args .output)) (told u .1) (ap (λ (n : ℕ). a + 8 + n) (told u .0)) in
     let q5 : Puts (now (s .args .out)) at _ _ (b + 6) = puts-more q4 lastKey (p3 .put3 .ensures) refl in
     let q6 = puts-more q5 (shown (s .args .last)) (u2 .put-unsigned2 .ensures .1) (ap (λ (n : ℕ). b + 6 + n) (u2 .put-unsigned2 .ensures .0)) in
-    let q7 = puts-more q6 (10 ∷ []) (p4 .put4 .ensures) refl in
+    let q7 = puts-more q6 (feed ∷ []) (p4 .put4 .ensures) refl in
     let g = puts-all q7 (answerText (s .args .code) (s .args .output) (s .args .last)) (simp append-assoc) in
     let x = few u1 in
     let y = few-2 u in

@@ -6,6 +6,7 @@ use denote.Ref.{now}
 use lib.ListN.{length}
 use lib.Seq.{sets}
 use mir.Facts.{toZ-ofZ}
+use Rattle.word.specs.End.{feed}
 use Rattle.word.specs.Decimal.{decimal}
 use Rattle.word.proofs.Shows.{decimal-room}
 use Rattle.word.proofs.Puts.{Puts, puts-none, puts-more, puts-all}
@@ -47,7 +48,7 @@ returns c =
     let u = p .before .before .before .before .before in
     let s = u .before .before .before in
     let a : Puts (now (s .args .out)) 0 (decimal (s .args .output)) _ (u .put-signed .result) = puts-more puts-none (decimal (s .args .output)) (told u .1) (omega (arith, told u .0)) in
-    let b = puts-all (puts-more a (10 ∷ []) (p .put .ensures) refl) (outputLine (s .args .output)) refl in
+    let b = puts-all (puts-more a (feed ∷ []) (p .put .ensures) refl) (outputLine (s .args .output)) refl in
     let x = few u in
     judges-answered (s .args .state) (outputLine (s .args .output)) b (omega arith)
 

@@ -2,6 +2,7 @@ use Prim.Native.Nat.{ℕ, _+_, _≤_}
 use mathlib.Core.Path.{refl, ap}
 use mathlib.Core.List.{[], _∷_, append-assoc}
 use denote.Ref.{now}
+use Rattle.word.specs.End.{feed}
 use Rattle.word.specs.Decimal.{shown}
 use Rattle.word.proofs.Shows.{shown-room}
 use Rattle.stream.specs.Run.{refusedWord, refusedLine}
@@ -73,7 +74,7 @@ returns c =
     let b = puts-more a (shown (s .args .code)) (u1 .put-unsigned .ensures .1) (ap (λ (n : ℕ). 8 + n) (u1 .put-unsigned .ensures .0)) in
     let d = puts-more b (32 ∷ []) (p2 .put2 .ensures) refl in
     let e = puts-more d (shown (s .args .line)) (u2 .put-unsigned2 .ensures .1) (ap (λ (n : ℕ). 8 + u1 .put-unsigned .result + 1 + n) (u2 .put-unsigned2 .ensures .0)) in
-    let f = puts-more e (10 ∷ []) (p3 .put3 .ensures) refl in
+    let f = puts-more e (feed ∷ []) (p3 .put3 .ensures) refl in
     let g = puts-all f (refusedLine (s .args .code) (s .args .line)) (simp append-assoc) in
     let x = few u1 in
     let y = few-2 u2 in
