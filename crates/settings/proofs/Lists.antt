@@ -1,15 +1,11 @@
 -- Laws of lists by place: blocks, and numbers that count up.
-use Prim.Native.Nat.{ℕ, zero, suc, _+_, _*_, _<_, _≤_}
+use Prim.Native.Nat.{ℕ, zero, suc, _+_, _*_, _<_}
 use mathlib.Core.Path.{_≡_, _∙_}
 use mathlib.Core.List.{List, [], _∷_}
 use native.Mathlib.Omega.{arith}
 use lib.ListN.{length, getD, length-append, List·getD-append}
 use lib.Seq.{getD-append-add}
 use Rattle.settings.specs.Table.{each, numbersFrom}
-
--- a number that is at least n, and is not n
-pub past : {n i : ℕ} → n ≤ i → (i ≡ n → ⊥) → suc n ≤ i
-past h f = omega (arith, f)
 
 -- element j of block k is at place n k + j, where each block has n
 pub each-at : {A B : Type 0} (n : ℕ) (f : B → List A) (bs : List B) (k j : ℕ) (d : A) (e : B) →

@@ -6,7 +6,7 @@ use mathlib.Core.List.{List, [], _∷_, _++_}
 use native.Mathlib.Omega.{arith}
 use lib.Dec.{lit<}
 use lib.IntN.{ℤ, pos, negsuc}
-use lib.ListN.{length, getD, drop, drop-of-length-le}
+use lib.ListN.{length, getD, drop}
 use mir.Syntax.{w32}
 use mir.Val.{SFits, toZ, ofZ}
 use mir.Facts.{toZ-ofZ}
@@ -15,10 +15,9 @@ use Rattle.whole.proofs.Truth.{never, both}
 use Rattle.settings.specs.declared.Gains.{Gains}
 use Rattle.settings.specs.declared.Settings.{Settings}
 use Rattle.settings.specs.declared.table.Row.{Row}
-use Rattle.settings.specs.Table.{reach, fastest, gain, share, headRows, gainRows, table, sets, heads, keys, lines, setRows, each, numbersFrom, rows, noRow, inRow}
+use Rattle.settings.specs.Table.{reach, fastest, gain, share, headRows, gainRows, table, sets, heads, keys, setRows, each, numbersFrom, rows, noRow, inRow}
 use Rattle.settings.specs.Settings.{noGains, gainsAt, gainValues, headValues, valuesOf, allIn, inTable}
 use Rattle.whole.proofs.Lists.{next}
-use Rattle.settings.proofs.Rows.{rows-long}
 
 -- ---- the test of one value after another
 
@@ -35,17 +34,6 @@ last {t} {a} p = p ∙ alone a
     alone : (a : Bool) → a ≡ (a && true)
     alone true = refl
     alone false = refl
-
--- ---- the test, part by part
-
--- one row of the test
-pub in-next : (vs : List ℤ) (i : ℕ) → i < lines → length vs ≡ lines →
-    allIn (drop i rows) (drop i vs) ≡ (inRow (getD rows i noRow) (getD vs i (pos 0)) && allIn (drop (i + 1) rows) (drop (i + 1) vs))
-in-next vs i h e = rw (next rows i noRow (omega (arith, rows-long)), next vs i (pos 0) (omega arith))
-
--- the test's end
-pub in-end : (vs : List ℤ) (i : ℕ) → lines ≤ i → allIn (drop i rows) vs ≡ true
-in-end vs i h = let k : length rows ≤ i = omega (arith, rows-long) in rw (drop-of-length-le rows k)
 
 -- the test of the first rows, and then of the others
 all-append : (rs qs : List Row) (vs ws : List ℤ) → length vs ≡ length rs → allIn (rs ++ qs) (vs ++ ws) ≡ (allIn rs vs && allIn qs ws)

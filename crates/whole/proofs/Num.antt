@@ -175,10 +175,6 @@ flag-le {a} {b} x y = record {
 pub test : {b t : Bool} → b ≡ t → (f : Flag b) → T (f .ok) → f .val ≡ t
 test e f k = sym (f .is k) ∙ e
 
--- a bool that is returned: `flag-gives (search nums) tt refl`
-pub flag-gives : {b : Bool} (f : Flag b) {r : Bool} → T (f .ok) → f .val ≡ r → b ≡ r
-flag-gives f t e = f .is t ∙ e
-
 pub ruleset nums = (num-back, num-back32, num-minus, num-add, num-neg, num-mul, num-shr, num-pos, num-negsuc, num-in, num-i32, flag-lt, flag-le)
 
 -- where nothing is known of a value but its type

@@ -131,9 +131,6 @@ pub in-turn : {z : ℤ} {n : ℕ} → max (plus z) (minus z) ≤ n + min (plus z
 in-turn {z = pos a} {n} h = record { within = omega arith }
 in-turn {z = negsuc a} {n} h = record { within = omega arith }
 
-pub in-via : {z y : ℤ} {n : ℕ} → z ≡ y → Within n y → Within n z
-in-via {n = n} e h = subst (λ (x : ℤ). Within n x) (sym e) h
-
 -- what omega is handed to read and to prove facts of signed numbers
 pub ruleset zs = (le-in, lt-in, eq-in, lt-yes, lt-no, le-yes, le-no, le-out, lt-out, eq-out, yes-lt, no-lt, yes-le, no-le, in-turn)
 

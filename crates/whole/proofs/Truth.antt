@@ -1,7 +1,7 @@
 -- Tests and choices: what follows from a test that came out true or false.
 use Prim.Native.Nat.{ℕ, suc}
 use mathlib.Core.Path.{_≡_, refl, sym, subst, _∙_}
-use mathlib.Core.Bool.{Bool, true, false, not, cond, _&&_, _||_}
+use mathlib.Core.Bool.{Bool, true, false, cond, _&&_}
 use native.Mathlib.Omega.{arith}
 use lib.Dec.{T}
 
@@ -22,10 +22,6 @@ both false u e = never e
 
 pub and : {t u : Bool} → t ≡ true → u ≡ true → (t && u) ≡ true
 and {t} {u} p q = rw (p, q)
-
-pub excluded : (a : Bool) → (a || not a) ≡ true
-excluded true = refl
-excluded false = refl
 
 -- what holds of both arms of a choice holds of the choice, with the test known in each
 pub chosen : {A : Type 0} (P : A → Type 0) (b : Bool) {x y : A} → (b ≡ true → P x) → (b ≡ false → P y) → P (cond b x y)
