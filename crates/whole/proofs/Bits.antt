@@ -1,14 +1,15 @@
 -- Signed values and the bits that the machine holds of them.
 use mathlib.Core.Path.{_≡_, ap, sym, _∙_}
 use mathlib.Core.List.{List, [], _∷_}
-use Prim.Native.Nat.{ℕ, zero, suc, _^_, _<_}
+use Prim.Native.Nat.{ℕ, zero, suc, _-_, _^_, _<_}
 use borrow.Author.Tests.{eqb-true, eqb-false}
 use denote.Array.{each}
 use denote.Shadow.{shadow}
 use denote.Signed.{SInt}
+use native.Mathlib.Omega.{arith}
 use lib.Dec.{eqb}
 use lib.Pow.{pow-pos}
-use lib.IntN.{ℤ, pos}
+use lib.IntN.{ℤ, pos, negsuc, negℤ}
 use lib.ListN.{getD}
 use lib.Signed.{mag}
 use mir.Syntax.{Width, w32, w64}
@@ -43,3 +44,13 @@ elem-fits w [] us i p = record { sfits = pow-pos (hbits w) }
 elem-fits w (x ∷ xs) [] i p = absurd p
 elem-fits w (x ∷ xs) (u ∷ us) zero p = record { sfits = p .0 .1 }
 elem-fits w (x ∷ xs) (u ∷ us) (suc i) p = elem-fits w xs us i (p .1)
+
+-- a value has an opposite of its type, unless it is the least of it
+pub fits-neg : (w : Width) (z : ℤ) → SFits w z → (z ≡ negsuc (2 ^ hbits w - 1) → ⊥) → SFits w (negℤ z)
+fits-neg w (pos zero) f g = f
+fits-neg w (pos (suc n)) f g = let h = f .sfits in record { sfits = omega arith }
+fits-neg w (negsuc n) f g =
+    let h = f .sfits in
+    by-test (eqb n (2 ^ hbits w - 1))
+    (λ e. absurd (g (ap negsuc (eqb-true n (2 ^ hbits w - 1) e))))
+    (λ e. record { sfits = omega (arith, eqb-false n (2 ^ hbits w - 1) e) })

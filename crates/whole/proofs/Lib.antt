@@ -4,4 +4,6 @@ pub mod Lin
 pub mod Sizes
 pub mod Num
 pub mod Bits
+pub mod Nearest
+pub mod Negated
 pub mod Lists

@@ -1,7 +1,7 @@
--- Laws of lists by place.
+-- Laws of lists by place, and of lists made element by element.
 use Prim.Native.Nat.{ℕ, zero, suc, _+_, _-_, _<_}
-use mathlib.Core.Path.{_≡_, refl}
-use mathlib.Core.List.{List, [], _∷_, _++_}
+use mathlib.Core.Path.{_≡_, refl, ap}
+use mathlib.Core.List.{List, [], _∷_, _++_, map}
 use native.Mathlib.Numerals.{add-one}
 use native.Mathlib.Omega.{arith}
 use lib.ListN.{length, getD, take, drop, set, length-drop}
@@ -24,3 +24,13 @@ part-left s i = take-all (length s - i) (drop i s) (rw length-drop (omega arith)
 -- a place that is filled, and those before it
 pub set-take : {A : Type 0} (l : List A) (i : ℕ) (x : A) → i < length l → take (i + 1) (set l i x) ≡ take i l ++ (x ∷ [])
 set-take l i x h = rw add-one (take-suc-set l i x h)
+
+-- a list made of each element of another: its front, and what is left at a place
+pub map-join : {A B : Type 0} (f : A → B) (xs ys : List A) → map f (xs ++ ys) ≡ map f xs ++ map f ys
+map-join f [] ys = refl
+map-join {B = B} f (x ∷ xs) ys = ap (λ (zs : List B). f x ∷ zs) (map-join f xs ys)
+
+pub map-drop : {A B : Type 0} (f : A → B) (n : ℕ) (xs : List A) → drop n (map f xs) ≡ map f (drop n xs)
+map-drop f zero xs = refl
+map-drop f (suc n) [] = refl
+map-drop f (suc n) (x ∷ xs) = map-drop f n xs
