@@ -54,8 +54,9 @@ pub struct Loop {
     pub last: Option<Command>,
 }
 
+/// To the nearest, halves away from zero.
 fn round(x: i64) -> i64 {
-    (x + 32_768) >> 16
+    (x + 32_768 + (x >> 63)) >> 16
 }
 
 impl Loop {

@@ -1,4 +1,5 @@
-//! 01's own example: settings C, and the loop that its bench log starts from.
+//! 01's own example: settings C, and the loop that its bench log starts from. For request 3, ovens
+//! whose outputs show a half at each place that 01 rounds.
 
 use crate::law::Loop;
 use crate::settings::{GainSet, Settings};
@@ -55,4 +56,59 @@ pub fn settings() -> Settings {
 /// "A fresh loop from C".
 pub fn fresh() -> Loop {
     Loop::make(&settings()).1
+}
+
+/// An oven with its samples and its outputs, worked out by hand, which would be others, were a half
+/// below zero rounded up.
+#[derive(Debug, Clone, PartialEq, Eq)]
+pub struct HalfOven {
+    /// Its settings; sp is 0, so that e = -pv.
+    pub settings: Settings,
+    /// Its temperatures. The first is 0 on a transfer sample, which leaves I = out × F.
+    pub samples: Vec<i32>,
+    /// The outputs.
+    pub outputs: Vec<i32>,
+}
+
+/// A half at each place that 01 rounds: "the filter's step, D, the output, the share of kt".
+pub fn half_ovens() -> [HalfOven; 4] {
+    [half_in_the_filter(), half_in_d(), half_in_the_output(), half_in_the_share()]
+}
+
+/// alpha = 1/2, kd = 1, kp = 1/2, out = -1, and pv = -1 for 17 samples: P + I = -F/2.
+///
+/// y starts at 0, F above pv, and goes down by F/2, F/4, .. 1: D = F/2, F/4, .. 1, and
+/// v = -F/2 + D gives 0 sixteen times. Then pv × F - y = -1, and the step of -0.5 becomes -1:
+/// D = 1, v = -32,767 gives 0. With a step of 0 it would be -32,768, which gives -1.
+fn half_in_the_filter() -> HalfOven {
+    let gains = GainSet { kp: 32_768, ki: 0, kd: 65_536, alpha: 32_768, kt: 0 };
+    let samples = [vec![0], vec![-1; 17]].concat();
+    let outputs = [vec![-1], vec![0; 17]].concat();
+    HalfOven { settings: half_settings(-1, gains), samples, outputs }
+}
+
+/// alpha = 1/F, kd = 1/2, kp = 1/2, out = 1, and pv = 1: y goes from 0 to 1, and D of -0.5 becomes
+/// -1. P + I = F/2, so that v = 32,767 gives 0. With D = 0 it would be 32,768, which gives 1.
+fn half_in_d() -> HalfOven {
+    let gains = GainSet { kp: 32_768, ki: 0, kd: 32_768, alpha: 1, kt: 0 };
+    HalfOven { settings: half_settings(1, gains), samples: vec![0, 1], outputs: vec![1, 0] }
+}
+
+/// kp = 1/2, out = 0, and pv = 1: v = P = -32,768, and the output of -0.5 becomes -1.
+fn half_in_the_output() -> HalfOven {
+    let gains = GainSet { kp: 32_768, ki: 0, kd: 0, alpha: 65_536, kt: 0 };
+    HalfOven { settings: half_settings(0, gains), samples: vec![0, 1], outputs: vec![0, -1] }
+}
+
+/// kt = 1/2, kp = 1/F, out = hi = 1, and pv = -1: v = F + 1 is one fine unit past the limit, and
+/// the share of -0.5 becomes -1: I = F - 1. Then pv = 32,768 gives P = -32,768 and v = 32,767,
+/// which gives 0. With a share of 0 it would be 32,768, which gives 1.
+fn half_in_the_share() -> HalfOven {
+    let gains = GainSet { kp: 1, ki: 0, kd: 0, alpha: 65_536, kt: 32_768 };
+    let settings = Settings { hi: 1, ..half_settings(1, gains) };
+    HalfOven { settings, samples: vec![0, -1, 32_768], outputs: vec![1, 1, 0] }
+}
+
+fn half_settings(out: i32, gains: GainSet) -> Settings {
+    Settings { action: 0, lo: -10, hi: 10, out, sp: 0, rate: 1, sets: [gains; 4] }
 }

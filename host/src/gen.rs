@@ -51,13 +51,13 @@ fn around32(rng: &mut Rng, least: i32, most: i32) -> i32 {
     }
 }
 
-/// Valid settings: half of them at the ends of the ranges, half of them of a loop that moves within
-/// its limits.
+/// Valid settings: a third of them at the ends of the ranges, a third of a loop that moves within
+/// its limits, a third of one whose roundings land on halves.
 pub fn settings(rng: &mut Rng) -> Settings {
-    if rng.one_in(2) {
-        extreme_settings(rng)
-    } else {
-        lively_settings(rng)
+    match rng.below(3) {
+        0 => extreme_settings(rng),
+        1 => lively_settings(rng),
+        _ => halving_settings(rng),
     }
 }
 
@@ -96,6 +96,34 @@ fn lively_gains(rng: &mut Rng) -> GainSet {
         kd: rng.between(0, 2 * Loop::F) as i32,
         alpha: within32(rng, 1, 65_536),
         kt: if rng.one_in(2) { 0 } else { within32(rng, 1, 65_536) },
+    }
+}
+
+/// Limits on either side of zero or about it, near enough to be passed now and then.
+fn halving_settings(rng: &mut Rng) -> Settings {
+    let lo = rng.between(-3_000, 1_000) as i32;
+    let hi = lo + rng.between(1, 2_000) as i32;
+    Settings {
+        action: rng.below(2) as i32,
+        lo,
+        hi,
+        out: rng.between(i64::from(lo), i64::from(hi)) as i32,
+        sp: rng.between(-500, 500) as i32,
+        rate: rng.between(1, 50) as i32,
+        sets: [(); 4].map(|()| halving_gains(rng)),
+    }
+}
+
+/// Gains of one half, which leave a half of every odd number, and of few fine units, which leave
+/// odd numbers of them. P and g keep to halves, so that v is on one, or off it by the little that
+/// the other roundings leave.
+fn halving_gains(rng: &mut Rng) -> GainSet {
+    GainSet {
+        kp: rng.pick(&[32_768, 98_304]),
+        ki: rng.pick(&[0, 0, 32_768]),
+        kd: rng.pick(&[0, 0, 1, 32_768, 65_536]),
+        alpha: rng.pick(&[1, 3, 32_768, 65_536]),
+        kt: rng.pick(&[0, 1, 3, 32_768]),
     }
 }
 
@@ -139,6 +167,34 @@ pub fn record(rng: &mut Rng) -> Loop {
         record.last_command = Some(command);
     }
     record
+}
+
+/// This record with one to three of its numbers and flags changed, most of them against a rule.
+pub fn doubtful(rng: &mut Rng, record: &Loop) -> Loop {
+    let mut record = *record;
+    for _ in 0..1 + rng.below(3) {
+        spoil(rng, &mut record);
+    }
+    record
+}
+
+/// Changes one thing.
+fn spoil(rng: &mut Rng, record: &mut Loop) {
+    let Settings { lo, hi, .. } = record.settings;
+    match rng.below(12) {
+        0 => record.settings = doubtful_settings(rng),
+        1 => record.mode = Mode::Manual,
+        2 => record.pending = !record.pending,
+        3 => record.set = outside32(rng, 0, 3),
+        4 => record.w = outside32(rng, LEAST_PV, MOST_PV),
+        5 => record.target = outside32(rng, LEAST_PV, MOST_PV),
+        6 => record.rate = outside32(rng, 1, MOST_RATE),
+        7 => record.u = rng.pick(&[lo.saturating_sub(1), hi.saturating_add(1), i32::MIN, i32::MAX]),
+        8 => record.integral = rng.pick(&[Loop::B + 1, -Loop::B - 1, i64::MIN, i64::MAX]),
+        9 => record.y = rng.pick(&[Loop::Y + 1, -Loop::Y - 1, i64::MIN, i64::MAX]),
+        10 => record.primed = !record.primed,
+        _ => record.last = 0,
+    }
 }
 
 fn last_number(rng: &mut Rng) -> u32 {
@@ -256,8 +312,10 @@ pub fn deliveries_file(list: &[Delivery]) -> Vec<u8> {
 pub fn spoiled_deliveries_file(rng: &mut Rng, list: &[Delivery]) -> Vec<u8> {
     let (before, after) = list.split_at(rng.below(list.len() + 1));
     let mut file = deliveries_file(before);
-    file.extend(rng.pick(&MALFORMED_DELIVERIES));
-    if !rng.one_in(4) {
+    let line = rng.pick(&MALFORMED_DELIVERIES);
+    file.extend(line);
+    // Without its line feed the empty line would be none.
+    if line.is_empty() || !rng.one_in(4) {
         file.push(b'\n');
         file.extend(deliveries_file(after));
     }
@@ -321,12 +379,15 @@ pub const MALFORMED_DELIVERIES: [&[u8]; 52] = [
 ];
 
 /// Temperatures in range for an automatic loop of these settings: it starts near sp and wanders,
-/// with a leap now and then.
+/// with a leap now and then; one list in three rests between, long enough for the filter to settle.
 pub fn samples(rng: &mut Rng, settings: &Settings, count: usize) -> Vec<i32> {
     let reach = rng.pick(&[2, 50, 2_000, 1_000_000]);
+    let rest = rng.pick(&[1, 1, 30]);
     let mut pv = settings.sp;
     let mut wander = |rng: &mut Rng| {
-        pv = in_range(pv + rng.between(-reach, reach) as i32);
+        if rng.one_in(rest) {
+            pv = in_range(pv + rng.between(-reach, reach) as i32);
+        }
         if rng.one_in(50) {
             pv = settings.sp;
         }
@@ -336,6 +397,14 @@ pub fn samples(rng: &mut Rng, settings: &Settings, count: usize) -> Vec<i32> {
         pv
     };
     (0..count).map(|_| wander(rng)).collect()
+}
+
+/// What the program delivers for its samples: "automatic as number 1 and the samples from number 2
+/// on".
+pub fn sample_deliveries(samples: &[i32]) -> Vec<Delivery> {
+    let samples = samples.iter().map(|&pv| Command::Sample(pv));
+    let numbered = (1..).zip([Command::Automatic].into_iter().chain(samples));
+    numbered.map(|(number, command)| Delivery { number, command }).collect()
 }
 
 /// The bytes of a sample file.

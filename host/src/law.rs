@@ -67,9 +67,15 @@ pub struct Loop {
     pub last_command: Option<Command>,
 }
 
-/// "round(x / F) is the floor of (x + 32,768) / F, for negative x too."
+/// round(x / F), to the nearest whole number. Request 3: "Halves shall go away from zero,
+/// everywhere that 01 rounds: fine -32,768 now gives -1, and -32,767 gives 0."
 pub fn round(x: i64) -> i64 {
-    (x + 32_768).div_euclid(Loop::F)
+    let size = (x.abs() + Loop::F / 2) / Loop::F;
+    if x < 0 {
+        -size
+    } else {
+        size
+    }
 }
 
 /// The plain law, which "knows no numbers": state rules, then content, then the command is carried

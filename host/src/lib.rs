@@ -1,9 +1,9 @@
 //! A temperature loop in ordinary Rust, written from document 01 ("The exact rules and the build")
-//! alone.
+//! and the requests of document 02 that have landed: request 3 ("Mirrored ovens disagree by one").
 //!
 //! It is a second opinion: tests compare its answers, and the whole output of its two programs,
-//! with those of the proved ones. So it says 01 as plainly as it can, sentence by sentence, and
-//! prefers that to speed.
+//! with those of the proved ones. So it says the papers as plainly as it can, sentence by sentence,
+//! and prefers that to speed.
 //!
 //! | 01's heading | module |
 //! |---|---|
@@ -14,18 +14,26 @@
 //! | Replay | [`replay`] |
 //! | Settings text | [`text`], [`decimal`], [`example`] (settings C) |
 //!
+//! | 02's request | module |
+//! |---|---|
+//! | 3, halves away from zero | [`law::round`] |
+//! | 3, the two mirrors | [`mirror`] |
+//!
 //! [`rng`] and [`gen`] make the random and hostile inputs of the tests, which
-//! `cargo test --offline --release` runs; a random test that fails tells its seed.
+//! `cargo test --offline --release` runs; a random test that fails tells its seed. [`by_hand`]
+//! takes the amounts of a sample a second time, and counts those that lie on a half.
 
 #![forbid(unsafe_code)]
 #![warn(missing_docs)]
 
+pub mod by_hand;
 pub mod decimal;
 pub mod delivery;
 pub mod example;
 pub mod gen;
 pub mod journal;
 pub mod law;
+pub mod mirror;
 pub mod oven;
 pub mod program;
 pub mod refusal;

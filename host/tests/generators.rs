@@ -1,5 +1,6 @@
 //! The generators give what the other tests need of them: nothing that matters stays unreached.
 
+use host::by_hand::Halves;
 use host::delivery::deliver;
 use host::gen;
 use host::law::{Command, Loop, Mode};
@@ -115,4 +116,42 @@ fn records_are_valid_and_of_every_kind() {
         }
     });
     assert!(kinds.iter().all(|&count| count > 100), "{kinds:?}");
+}
+
+#[test]
+fn deliveries_and_samples_land_on_halves_of_either_sign_at_every_place() {
+    let [mut delivered, mut sampled] = [Halves::default(); 2];
+    for_each_seed(100, |rng| {
+        let settings = gen::settings(rng);
+        delivered.add_list(&settings, &gen::deliveries(rng, &settings, 300));
+        let samples = gen::samples(rng, &settings, 300);
+        sampled.add_list(&settings, &gen::sample_deliveries(&samples));
+    });
+    assert!(delivered.fewest() > 5 && sampled.fewest() > 5, "{delivered:?} {sampled:?}");
+}
+
+#[test]
+fn doubtful_records_break_every_rule_and_some_keep_them() {
+    let mut kept = 0;
+    let mut broken = [0; 9];
+    for_each_seed(5_000, |rng| {
+        let sound = gen::record(rng);
+        let record = gen::doubtful(rng, &sound);
+        let rules = [
+            record.settings.check().is_ok(),
+            Loop::TEMPERATURES.contains(&record.w) && Loop::TEMPERATURES.contains(&record.target),
+            Loop::RATES.contains(&record.rate),
+            Loop::SETS.contains(&record.set),
+            record.settings.lo <= record.u && record.u <= record.settings.hi,
+            record.integral.checked_abs().map_or(false, |size| size <= Loop::B),
+            record.y.checked_abs().map_or(false, |size| size <= Loop::Y),
+            record.primed || record.y == 0,
+            record.mode == Mode::Automatic || !record.pending,
+        ];
+        for (count, rule) in broken.iter_mut().zip(rules) {
+            *count += i32::from(!rule);
+        }
+        kept += i32::from(record.check().is_ok());
+    });
+    assert!(broken.iter().all(|&count| count > 100) && kept > 100, "{broken:?} {kept}");
 }

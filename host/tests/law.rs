@@ -1,5 +1,6 @@
-//! 01, "The law, one command at a time".
+//! 01, "The law, one command at a time", with the halves of request 3.
 
+use host::by_hand::{amounts, nearest, Amounts, Halves};
 use host::example;
 use host::gen;
 use host::law::{obey, Command, Loop, Mode};
@@ -132,7 +133,8 @@ fn the_derivative_acts_on_the_measurement() {
     record = after(record, Sample(480));
     // e = 550 - 480 = 70: P = 140, g = 17.5, and D = 0 although e moved by 50.
     assert_eq!(record.integral, settled + 35 * Loop::F / 2);
-    assert_eq!(i64::from(record.u), (settled + 315 * Loop::F / 2 + 32_768).div_euclid(Loop::F));
+    // The transfer sample with e = 20 and P = 40 left I = 60, so v = 60 + 157.5.
+    assert_eq!((settled, record.u), (60 * Loop::F, 218));
 }
 
 /// A falling temperature pushes a heater up: y goes from 480 to 470 by half, so D = 10 / 2 × 1.
@@ -150,10 +152,10 @@ fn the_derivative_has_the_sign_of_the_action() {
     }
 }
 
-/// Half of the way from y to 0 in fine units: -0.5 rounds to 0, 0.5 to 1, -1.5 to -1, 1.5 to 2.
+/// Half of the way from y to 0 in fine units: -0.5 rounds to -1, 0.5 to 1, -1.5 to -2, 1.5 to 2.
 #[test]
-fn the_filter_rounds_as_01_says() {
-    for (y, next) in [(1, 1), (-1, 0), (3, 2), (-3, -1)] {
+fn the_filter_rounds_halves_away_from_zero() {
+    for (y, next) in [(1, 0), (-1, 0), (3, 1), (-3, -1)] {
         let mut record = running();
         record.settings.sets[0].alpha = 32_768;
         record.y = y;
@@ -162,18 +164,21 @@ fn the_filter_rounds_as_01_says() {
 }
 
 /// With alpha = 1 fine, y moves from 0 by pv fine units; with kd = 1/2, D is half of it turned
-/// round: -0.5 rounds to 0, 0.5 to 1, -1.5 to -1, 1.5 to 2.
+/// round: -0.5 rounds to -1, 0.5 to 1, -1.5 to -2, 1.5 to 2. A cooler turns it round again.
 #[test]
-fn the_derivative_rounds_as_01_says() {
+fn the_derivative_rounds_halves_away_from_zero() {
     let gains = GainSet { kp: 0, ki: 0, kd: 32_768, alpha: 1, kt: 0 };
-    for (pv, d) in [(1, 0), (-1, 1), (3, -1), (-3, 2)] {
-        let mut record = running();
-        record.settings.sets[0] = gains;
-        record.y = 0;
-        record.pending = true;
-        let moved = after(record, Sample(pv));
-        assert_eq!(moved.y, i64::from(pv));
-        assert_eq!(moved.integral, 100 * Loop::F - d, "pv {pv}");
+    for (pv, d) in [(1, -1), (-1, 1), (3, -2), (-3, 2)] {
+        for (action, s) in [(0, 1), (1, -1)] {
+            let mut record = running();
+            record.settings.action = action;
+            record.settings.sets[0] = gains;
+            record.y = 0;
+            record.pending = true;
+            let moved = after(record, Sample(pv));
+            assert_eq!(moved.y, i64::from(pv));
+            assert_eq!(moved.integral, 100 * Loop::F - s * d, "pv {pv}, action {action}");
+        }
     }
 }
 
@@ -223,16 +228,17 @@ fn back_calculation_is_limited_to_the_bound() {
     }
 }
 
-/// Back-calculation rounds kt × (U - v) / F: v is 1000 + 3 / F, so U - v = -3 fine units, and
-/// half of it is -1.5, rounded -1; at the lower limit +1.5 is rounded 2.
+/// Back-calculation rounds kt × (U - v) / F: with e = 0, v is I, which lies 1 or 3 fine units past
+/// a limit, and kt is one half. At the upper limit -0.5 rounds to -1 and -1.5 to -2, at the lower
+/// one 0.5 to 1 and 1.5 to 2.
 #[test]
-fn back_calculation_rounds_as_01_says() {
-    for (pv, integral, share) in [(500, 1_000 * Loop::F + 3, -1), (500, -3, 2)] {
+fn back_calculation_rounds_halves_away_from_zero() {
+    let hi = 1_000 * Loop::F;
+    for (integral, share) in [(hi + 1, -1), (hi + 3, -2), (-1, 1), (-3, 2)] {
         let mut record = running();
         record.set = 2;
         record.integral = integral;
-        let moved = after(record, Sample(pv));
-        assert_eq!(moved.integral, integral + share);
+        assert_eq!(after(record, Sample(500)).integral, integral + share, "I = {integral}");
     }
 }
 
@@ -265,7 +271,7 @@ fn the_output_is_rounded_and_not_cut() {
         record.integral = integral;
         assert_eq!(after(record, Sample(500)).u, u, "fine {integral}");
     }
-    for (integral, u) in [(-32_768, 0), (-32_769, -1), (-98_304, -1), (-98_305, -2)] {
+    for (integral, u) in [(-32_767, 0), (-32_768, -1), (-98_303, -1), (-98_304, -2)] {
         let mut record = running();
         record.settings.lo = -1_000;
         record.integral = integral;
@@ -314,38 +320,13 @@ fn the_setpoint_arrives_after_exactly_the_ceiling_of_distance_over_rate() {
     });
 }
 
-/// What an ordinary sample works with, taken by shifts and by hand.
-struct Ordinary {
-    g: i64,
-    v: i64,
-    limited: i64,
-    kt: i64,
-}
-
-fn ordinary(before: &Loop, pv: i32) -> Ordinary {
-    let gains = before.settings.sets[before.set as usize];
-    let s = 1 - 2 * i64::from(before.settings.action);
-    let ahead = i64::from(before.target - before.w);
-    let rate = i64::from(before.rate);
-    let w = i64::from(before.w) + ahead.clamp(-rate, rate);
-    let e = s * (w - i64::from(pv));
-    let measured = i64::from(pv) << 16;
-    let moved = ((measured - before.y) * i64::from(gains.alpha) + 32_768) >> 16;
-    let damping = (-i64::from(gains.kd) * s * moved + 32_768) >> 16;
-    let d = if before.primed { damping } else { 0 };
-    let g = i64::from(gains.ki) * e;
-    let v = i64::from(gains.kp) * e + before.integral + g + d;
-    let (lo, hi) = (i64::from(before.settings.lo), i64::from(before.settings.hi));
-    Ordinary { g, v, limited: v.clamp(lo << 16, hi << 16), kt: i64::from(gains.kt) }
-}
-
 /// The share of the integral in a sample past a limit. Clamping leaves of g what brings v to the
-/// limit, so far as g itself drove v past it.
-fn share_past_a_limit(sample: &Ordinary) -> i64 {
+/// limit, so far as g itself drove v past it; back-calculation has a share of kt.
+fn share_past_a_limit(sample: &Amounts) -> i64 {
     let excess = sample.v - sample.limited;
     let g = sample.g;
-    if sample.kt > 0 {
-        g + ((-sample.kt * excess + 32_768) >> 16)
+    if sample.share != 0 {
+        g + nearest(sample.share)
     } else if g.signum() == excess.signum() {
         g.signum() * (g.abs() - excess.abs()).max(0)
     } else {
@@ -358,7 +339,7 @@ fn share_past_a_limit(sample: &Ordinary) -> i64 {
 /// clamping or back-calculation says.
 #[test]
 fn the_integral_moves_by_the_shares() {
-    let (mut within, mut past) = (0, [0; 2]);
+    let (mut within, mut past, mut halves) = (0, [0; 2], Halves::default());
     for_each_seed(300, |rng| {
         let mut record = Loop::make(&gen::settings(rng)).1;
         for _ in 0..200 {
@@ -367,13 +348,15 @@ fn the_integral_moves_by_the_shares() {
             let kept = obey(&mut record, command).is_ok();
             let automatic = before.mode == Mode::Automatic && !before.pending;
             if let (Sample(pv), true, true) = (command, kept, automatic) {
-                let sample = ordinary(&before, pv);
-                assert_eq!(i64::from(record.u), (sample.limited + 32_768) >> 16);
+                let sample = amounts(&before, pv);
+                halves.add(&before, command);
+                assert!(!before.primed || record.y == before.y + nearest(sample.filter));
+                assert_eq!(i64::from(record.u), nearest(sample.limited));
                 if sample.v == sample.limited {
                     within += 1;
                     assert_eq!(record.integral, before.integral + sample.g);
                 } else {
-                    past[usize::from(sample.kt > 0)] += 1;
+                    past[usize::from(sample.share != 0)] += 1;
                     let moved = before.integral + share_past_a_limit(&sample);
                     assert_eq!(record.integral, moved.clamp(-Loop::B, Loop::B));
                 }
@@ -382,4 +365,5 @@ fn the_integral_moves_by_the_shares() {
     });
     assert!(within > 3_000, "{within} within limits");
     assert!(past[0] > 3_000 && past[1] > 3_000, "clamped, back-calculated {past:?}");
+    assert!(halves.fewest() > 0, "{halves:?}");
 }

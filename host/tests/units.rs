@@ -1,28 +1,43 @@
-//! 01, "Units": rounding and the table of ranges.
+//! 01, "Units": rounding, as request 3 has it, and the table of ranges.
 
+use host::by_hand::nearest;
 use host::law::{round, Loop};
 use host::rng::for_each_seed;
 use host::settings::{Settings, ROWS};
 
+/// "fine -32,768 now gives -1, and -32,767 gives 0"; 01's other numbers stand.
 #[test]
-fn rounding_gives_the_numbers_of_01() {
+fn rounding_gives_the_numbers_of_request_3() {
     assert_eq!(Loop::F, 65_536);
-    let examples = [(32_767, 0), (32_768, 1), (-32_768, 0), (-32_769, -1)];
+    let examples =
+        [(32_767, 0), (32_768, 1), (-32_767, 0), (-32_768, -1), (-32_769, -1), (98_304, 2)];
     for (fine, rounded) in examples {
         assert_eq!(round(fine), rounded, "fine {fine}");
+        assert_eq!(nearest(fine), rounded, "fine {fine}, by hand");
     }
 }
 
+/// No whole number lies nearer, and of two that lie as near the one "away from zero" is taken.
 #[test]
-fn rounding_is_the_floor_for_every_size() {
+fn rounding_is_to_the_nearest_and_halves_go_away_from_zero_at_every_size() {
     let most = 2_800_000_000_000_000_000;
+    let mut halves = 0;
     for_each_seed(20_000, |rng| {
         let size = rng.pick(&[70_000, 1 << 40, most]);
-        let x = rng.between(-size, size);
-        let r = round(x);
-        assert!(Loop::F * r - 32_768 <= x && x < Loop::F * r + 32_768, "{x} gives {r}");
-        assert_eq!(round(x + Loop::F), r + 1, "one more unit than {x}");
+        let any = rng.between(-size, size);
+        let near_a_half = (any & !0xffff) + rng.between(32_766, 32_770);
+        let x = rng.pick(&[any, near_a_half]);
+        for r in [round(x), nearest(x)] {
+            let distance = (Loop::F * r - x).abs();
+            assert!(2 * distance <= Loop::F, "{x} gives {r}");
+            if 2 * distance == Loop::F {
+                halves += 1;
+                assert!((Loop::F * r).abs() > x.abs(), "{x} gives {r}");
+            }
+        }
+        assert_eq!(round(-x), -round(x), "{x} and its opposite");
     });
+    assert!(halves > 1_000, "{halves} halves");
 }
 
 #[test]

@@ -16,7 +16,7 @@ use Rattle.pid.specs.Units.{F, part, rounded}
 use Rattle.settings.specs.Table.{share}
 use Rattle.pid.specs.Bounds.{SlopeOk}
 use Rattle.pid.specs.Sample.{lesser, greater, limited, ramped, filtered, derivative, clamped}
-use Rattle.pid.proofs.Rounding.{rounded-low, rounded-high, rounded-within, share-high, share-low, num-rounded}
+use Rattle.pid.proofs.Rounding.{rounded-within, share-high, share-low, num-rounded}
 
 -- what holds of both holds of the smaller, of the larger, and of a number limited to them
 pub lesser-of : (P : ℤ → Type 0) (a b : ℤ) → P a → P b → P (lesser a b)
@@ -92,21 +92,6 @@ derivative-within primed kd sign y after k =
     chosen (Within part) primed
     (λ _. rounded-within (kd *ℤ sign *ℤ (y -ℤ after)) 8388608000000 (stays (search nums depth 12) tt))
     (λ _. record { within = omega arith })
-
--- a fine amount within lo × F..hi × F is rounded to one within lo..hi
-pub rounded-between : (x lo hi : ℤ) → (lo *ℤ pos F) ≤ℤ x → x ≤ℤ (hi *ℤ pos F) → Between lo hi (rounded x)
-rounded-between x lo hi l h =
-    let X = at x in
-    let A = at lo in
-    let B = at hi in
-    let R = at (rounded x) in
-    let L : Lin (lo *ℤ pos 65536) = search lins in
-    let H : Lin (hi *ℤ pos 65536) = search lins in
-    let P : Lin (rounded x *ℤ pos 65536 -ℤ pos 32768) = search lins in
-    let Q : Lin (rounded x *ℤ pos 65536 +ℤ pos 32768) = search lins in
-    let a = rounded-low x in
-    let b = rounded-high x in
-    record { low = omega (arith, zs); high = omega (arith, zs) }
 
 pub limited-between : (x lo hi : ℤ) → lo ≤ℤ hi → Between lo hi (limited x lo hi)
 unfolding limited

@@ -24,7 +24,8 @@ use Rattle.pid.specs.Sample.{limited, actedOf, movedOf}
 use Rattle.pid.specs.Law.{fixedOf, movingOf, withMode, withTarget, sampleOf, refusalOf, stepOf, lawOf}
 use Rattle.pid.specs.Bounds.{MovingOk}
 use Rattle.settings.proofs.Ranges.{settings-in}
-use Rattle.pid.proofs.Arithmetic.{rounded-between, limited-between}
+use Rattle.pid.proofs.Rounding.{rounded-between}
+use Rattle.pid.proofs.Arithmetic.{limited-between}
 use Rattle.pid.proofs.Sound.{Holds, valid-of, holds-of, in-range, range-in, fixed-ok, moving-ok}
 use Rattle.pid.proofs.Samples.{sensed-ok, acted-ok}
 

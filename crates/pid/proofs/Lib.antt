@@ -1,5 +1,5 @@
 mod Fit
-mod Shapes
+pub mod Shapes
 pub mod Rounding
 pub mod Arithmetic
 pub mod Samples

@@ -17,6 +17,7 @@ use Rattle.pid.specs.Record.{valid}
 use Rattle.pid.specs.Sample.{movedOf}
 use Rattle.pid.specs.Law.{withMoving, fixedOf, sampleOf, stepOf}
 use Rattle.command.specs.Sequence.{after, each}
+use Rattle.command.proofs.Sequences.{after-through}
 use Rattle.pid.specs.Play.{sampled, afterSamples, outputsOf, firstBad, playRefusal, refusedOf, playedOf, frontFilled, wroteOf, movedAfter, movedOutputs}
 use Rattle.pid.proofs.Turns.{bad-most, each-length}
 
@@ -34,9 +35,7 @@ outputs-moved l m (pv ∷ pvs) = ap (λ (us : List ℤ). movedOf (fixedOf l) m p
 
 -- given as commands, they do the same
 pub after-commands : (l : Loop) (pvs : List ℤ) → after stepOf l (map Sample pvs) ≡ afterSamples l pvs
-unfolding after
-after-commands l [] = refl
-after-commands l (pv ∷ pvs) = after-commands (sampled l pv) pvs
+after-commands l pvs = after-through (λ (m : Loop). m) Sample sampled stepOf (λ _ _. refl) l pvs
 
 pub outputs-length : (l : Loop) (pvs : List ℤ) → length (outputsOf l pvs) ≡ length pvs
 outputs-length l pvs = each-length sampled (λ m pv. sampled m pv .u) l pvs

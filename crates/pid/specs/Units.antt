@@ -1,7 +1,7 @@
 -- 01, "Units": the constants but those of the settings' ranges, and rounding.
 use Prim.Native.Nat.{ℕ, _+_, _*_, _/_}
-use lib.IntN.{ℤ, pos, _+ℤ_}
-use lib.Signed.{shrZ}
+use lib.IntN.{ℤ, pos}
+use Rattle.whole.specs.Rounding.{nearest}
 
 -- "F = 65,536. A fine amount is an output amount times F."
 abbrev pub F : ℕ
@@ -30,6 +30,7 @@ excessMost = 42074112000000
 abbrev pub product : ℕ
 product = 2800000000000000000
 
--- "round(x / F) is the floor of (x + 32,768) / F, for negative x too." `shrZ x m` is the floor of x / m
+-- "Halves shall go away from zero, everywhere that 01 rounds" (02, request 3): round(x / F) is x / F to the nearest, so that
+-- fine 32,768 gives 1 and -32,768 gives -1
 unfoldable pub rounded : ℤ → ℤ
-rounded x = shrZ (x +ℤ pos 32768) F
+rounded x = nearest x F

@@ -42,12 +42,13 @@ pub struct Sensed {
     pub d: i64,
 }
 
-// "round(x / F) is the floor of (x + 32,768) / F, for negative x too": the shift is the floor.
+// To the nearest, halves away from zero, without a branch: the shift by 16 is a floor, so halves go up, and the shift by 63
+// is -1 below zero and 0 elsewhere, so that there they go down.
 fn round(x: i64) -> i64
     requires { ⌜ Within product x ⌝ }
     ensures { λ r. ⌜ r ≡ rounded x ⌝ }
 {
-    (x + 32_768) >> 16
+    (x + 32_768 + (x >> 63)) >> 16
 }
 
 fn least(a: i64, b: i64) -> i64

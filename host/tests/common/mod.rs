@@ -136,7 +136,7 @@ pub fn same(name: &str, written: &[u8], expected: &str) {
     let place = written.iter().zip(expected.as_bytes()).take_while(|(a, b)| a == b).count();
     let line = expected.as_bytes()[..place].iter().filter(|&&byte| byte == b'\n').count() + 1;
     panic!(
-        "{name}: the program and the peer differ at byte {place}, line {line}: {:?} and {:?}",
+        "{name}: written and expected differ at byte {place}, line {line}: {:?} and {:?}",
         String::from_utf8_lossy(&written[place..written.len().min(place + 80)]),
         &expected[place..expected.len().min(place + 80)],
     );

@@ -18,22 +18,26 @@ use Rattle.pid.specs.Run.{obeyed, accepted, switches, between, unbroken,
 use Rattle.settings.specs.SettingsC.{settingsC}
 use Rattle.pid.specs.Sample.{lesser, greater, limited, ramped, filtered, derivative, sensedOf, clamped, backCalculated, integrated, actedOf, movedOf}
 
--- "fine 32,767 gives 0, 32,768 gives 1, -32,768 gives 0, -32,769 gives -1"
-pub rounds-down : rounded (pos 32767) ≡ pos 0
+-- "fine 32,767 gives 0, 32,768 gives 1" and, by request 3, "fine -32,768 now gives -1, and -32,767 gives 0"; 01's -32,769 stays -1
+pub below-half : rounded (pos 32767) ≡ pos 0
 unfolding rounded
-rounds-down = refl
+below-half = refl
 
-pub rounds-up : rounded (pos 32768) ≡ pos 1
+pub half : rounded (pos 32768) ≡ pos 1
 unfolding rounded
-rounds-up = refl
+half = refl
 
-pub negative-half : rounded (negsuc 32767) ≡ pos 0
+pub negative-below-half : rounded (negsuc 32766) ≡ pos 0
+unfolding rounded
+negative-below-half = refl
+
+pub negative-half : rounded (negsuc 32767) ≡ negsuc 0
 unfolding rounded
 negative-half = refl
 
-pub negative-more : rounded (negsuc 32768) ≡ negsuc 0
+pub negative-above-half : rounded (negsuc 32768) ≡ negsuc 0
 unfolding rounded
-negative-more = refl
+negative-above-half = refl
 
 -- ---- "At the upper limit, ordinary sample 400, w = target = 500, y = 400"
 

@@ -1,0 +1,163 @@
+//! Request 3's two mirrors of the proved programs: what `journal` and `oven` write for mirrored
+//! files is the mirror of what they write for the others. The peer counts the halves, and no more.
+
+// Cut lines and missing files are the matter of the other tests of the programs.
+#[allow(dead_code)]
+mod common;
+
+use common::{same, Program};
+use host::by_hand::Halves;
+use host::delivery::Delivery;
+use host::mirror::{oven_line, Mirror};
+use host::rng::{for_each_seed, Rng};
+use host::settings::Settings;
+use host::{example, gen, text};
+
+/// What the program writes for settings and the bytes of its other file.
+fn written(program: &Program, settings: &Settings, lines: &[u8]) -> String {
+    let output = program.run(text::lines_of(settings).as_bytes(), lines);
+    String::from_utf8(output).expect("text")
+}
+
+/// Whether this line refuses the file, and answers nothing in it.
+fn refuses(line: &str) -> bool {
+    line.starts_with("refused ")
+}
+
+/// The program's output for a mirrored pair of files is a mirrored pair, line by line, and a file
+/// is refused as its mirror is. Gives the count of the answers.
+fn outputs_mirror(
+    program: &Program,
+    settings: [&Settings; 2],
+    files: [Vec<u8>; 2],
+    answer: impl Fn(&str) -> Option<String>,
+) -> usize {
+    let output = written(program, settings[0], &files[0]);
+    let expected: String = output
+        .lines()
+        .map(|line| if refuses(line) { line.into() } else { answer(line).expect("an answer") })
+        .map(|line| line + "\n")
+        .collect();
+    same("the mirror", written(program, settings[1], &files[1]).as_bytes(), &expected);
+    output.lines().filter(|line| !refuses(line)).count()
+}
+
+/// The two files of two lists. One pair in four is spoiled, by the same stream and so at the same
+/// place by the same line.
+fn files<T>(
+    rng: &mut Rng,
+    lists: [&[T]; 2],
+    good: impl Fn(&[T]) -> Vec<u8>,
+    spoiled: impl Fn(&mut Rng, &[T]) -> Vec<u8>,
+) -> [Vec<u8>; 2] {
+    if rng.one_in(4) {
+        lists.map(|list| spoiled(&mut rng.clone(), list))
+    } else {
+        lists.map(good)
+    }
+}
+
+/// Deliveries of every kind, or those of an oven, which nothing disturbs.
+fn deliveries(rng: &mut Rng, settings: &Settings) -> Vec<Delivery> {
+    if rng.one_in(2) {
+        gen::deliveries(rng, settings, 300)
+    } else {
+        gen::sample_deliveries(&gen::samples(rng, settings, 300))
+    }
+}
+
+/// "same codes, same numbers, outputs [..] with the other sign"
+#[test]
+fn mirrored_deliveries_get_mirrored_answers_from_journal() {
+    let program = Program::new("journal");
+    for mirror in Mirror::BOTH {
+        let (mut answered, mut halves) = (0, Halves::default());
+        for_each_seed(200, |rng| {
+            let settings = gen::settings(rng);
+            let drawn = deliveries(rng, &settings).into_iter();
+            let pairs = drawn.filter_map(|next| Some((next, mirror.delivery(&next)?)));
+            let (list, others): (Vec<Delivery>, Vec<Delivery>) = pairs.unzip();
+            let spoiled = gen::spoiled_deliveries_file;
+            let files = files(rng, [&list, &others], gen::deliveries_file, spoiled);
+            let both = [&settings, &mirror.settings(&settings)];
+            let count = outputs_mirror(&program, both, files, |line| mirror.journal_line(line));
+            answered += count;
+            halves.add_list(&settings, &list[..count]);
+        });
+        println!("journal, {mirror:?}: {answered} deliveries, {halves:?}");
+        assert!(answered >= 10_000, "{answered} deliveries");
+        assert!(halves.fewest() > 0, "{halves:?}");
+    }
+}
+
+/// Samples for these settings, now and then with one out of range among them.
+fn samples(rng: &mut Rng, settings: &Settings) -> Vec<i32> {
+    let mut samples = gen::samples(rng, settings, 300);
+    if rng.one_in(8) {
+        let place = rng.below(samples.len());
+        samples[place] = rng.pick(&[1_000_001, -1_000_001, 9_999_999, -9_999_999]);
+    }
+    samples
+}
+
+/// "every output [..] change[s] sign"
+#[test]
+fn mirrored_samples_get_mirrored_outputs_from_oven() {
+    let program = Program::new("oven");
+    for mirror in Mirror::BOTH {
+        let (mut answered, mut halves) = (0, Halves::default());
+        for_each_seed(200, |rng| {
+            let settings = gen::settings(rng);
+            let list = samples(rng, &settings);
+            let others = mirror.samples(&list);
+            let spoiled = gen::spoiled_sample_file;
+            let files = files(rng, [&list, &others], gen::sample_file, spoiled);
+            let both = [&settings, &mirror.settings(&settings)];
+            let count = outputs_mirror(&program, both, files, oven_line);
+            answered += count;
+            halves.add_list(&settings, &gen::sample_deliveries(&list[..count]));
+        });
+        println!("oven, {mirror:?}: {answered} samples, {halves:?}");
+        assert!(answered >= 10_000, "{answered} samples");
+        assert!(halves.fewest() > 0, "{halves:?}");
+    }
+}
+
+/// Halves of either sign at each place that 01 rounds, in ovens whose outputs are worked out by
+/// hand.
+#[test]
+fn a_half_at_each_place_shows_in_what_the_programs_write() {
+    let (oven, journal) = (Program::new("oven"), Program::new("journal"));
+    for example in example::half_ovens() {
+        let output = written(&oven, &example.settings, &gen::sample_file(&example.samples));
+        let outputs: Vec<i32> = output.lines().map(|u| u.parse().expect("an output")).collect();
+        assert_eq!(outputs, example.outputs, "{:?}", example.settings);
+        for mirror in Mirror::BOTH {
+            let settings = [&example.settings, &mirror.settings(&example.settings)];
+            let lists = [&example.samples[..], &mirror.samples(&example.samples)];
+            let files = lists.map(gen::sample_file);
+            assert_eq!(outputs_mirror(&oven, settings, files, oven_line), outputs.len());
+            let files = lists.map(|list| gen::deliveries_file(&gen::sample_deliveries(list)));
+            outputs_mirror(&journal, settings, files, |line| mirror.journal_line(line));
+        }
+    }
+}
+
+/// Settings are taken exactly when their mirror is. The line of a bad value moves with it, where lo
+/// and hi change places; a refusal by their order has no line.
+#[test]
+fn mirrored_settings_are_taken_or_refused_by_both() {
+    let program = Program::new("oven");
+    let mut taken = [0; 2];
+    for mirror in Mirror::BOTH {
+        for_each_seed(40, |rng| {
+            let settings = gen::doubtful_settings(rng);
+            let one = written(&program, &settings, b"0\n");
+            let other = written(&program, &mirror.settings(&settings), b"0\n");
+            assert_eq!(refuses(&other), refuses(&one), "{settings:?}");
+            assert_eq!(other == "refused 16 0\n", one == "refused 16 0\n", "{settings:?}");
+            taken[usize::from(refuses(&one))] += 1;
+        });
+    }
+    assert!(taken[0] > 10 && taken[1] > 10, "taken, refused {taken:?}");
+}
