@@ -1,0 +1,187 @@
+-- An oven of which a list of deliveries goes through a half at each place where 01 rounds, and its two mirror images: a cooler
+-- under the same temperatures, and an oven under the opposite ones. All of it is computed by the definitions.
+use Prim.Native.Nat.{ℕ}
+use mathlib.Core.Path.{_≡_, refl}
+use mathlib.Core.List.{List, [], _∷_, _++_, map}
+use lib.ListN.{take}
+use lib.IntN.{ℤ, pos, negsuc, negℤ, _-ℤ_, _*ℤ_}
+use Rattle.settings.specs.declared.Settings.{Settings}
+use Rattle.settings.specs.Table.{rows}
+use Rattle.settings.specs.Settings.{inTable}
+use Rattle.settings.specs.SettingsC.{gainSet}
+use Rattle.command.specs.declared.Command.{Command}
+use Rattle.command.specs.declared.Command.the-variants.{Sample, Put, Automatic, Set}
+use Rattle.command.specs.Sequence.{after, each}
+use Rattle.pid.specs.declared.record.Loop.{Loop}
+use Rattle.pid.specs.Units.{F, fine, rounded}
+use Rattle.pid.specs.Record.{valid, madeOf as Loop·madeOf}
+use Rattle.pid.specs.Sample.{lesser, greater, limited, ramped, filtered, derivative, sensedOf, vOf, limitedV, clamped, backCalculated, integrated, actedOf}
+use Rattle.pid.specs.Law.{fixedOf, movingOf, sampleOf, stepOf, refusalOf, lawOf}
+use Rattle.pid.specs.Run.{sensedAt}
+use Rattle.pid.specs.Play.{firstBad}
+use Rattle.memory.specs.Memory.{isLast, foundBy}
+use Rattle.memory.specs.Walk.{Delivery, Answer}
+use Rattle.delivery.specs.declared.numbered.Numbered.{Numbered}
+use Rattle.delivery.specs.Numbered.{madeOf, servedOf, deliveredOf}
+use Rattle.delivery.specs.Demand3.{handedBack, answered}
+use Rattle.delivery.specs.Replay.{numbered, replayRefusal, writtenOf}
+use Rattle.mirror.specs.Mirror.{Mirror, ofAction, ofTemperatures, flipTemperature, flipSettings, flipDelivery, leastValue, Opposed}
+use Rattle.mirror.proofs.Held.{least-turned}
+
+-- ---- the oven and its mirror images
+
+-- set 0 filters by the least alpha; set 1 takes halves in the filter, in D and by kt; set 2 has kp = 1/2 and nothing else
+abbrev like : ℤ → ℤ → ℤ → ℤ → ℤ → Settings
+like action lo hi out sp = record {
+  action = action;
+  lo = lo;
+  hi = hi;
+  out = out;
+  sp = sp;
+  rate = pos 50;
+  gains =
+      gainSet 0 0 0 1 0
+      ∷ gainSet 65536 0 32768 32768 32768
+      ∷ gainSet 32768 0 0 65536 0
+      ∷ gainSet 0 0 0 65536 0
+      ∷ [];
+}
+
+abbrev oven : Settings
+oven = like (pos 0) (pos 0) (pos 1000) (pos 100) (pos 500)
+
+-- "Flip only the action, the limits (to -hi..-lo), out"
+pub cooler : flipSettings ofAction oven ≡ like (pos 1) (negℤ (pos 1000)) (pos 0) (negℤ (pos 100)) (pos 500)
+cooler = refl
+
+-- "Keep the action and flip limits, out, [..] sp"
+pub cold-oven : flipSettings ofTemperatures oven ≡ like (pos 0) (negℤ (pos 1000)) (pos 0) (negℤ (pos 100)) (negℤ (pos 500))
+cold-oven = refl
+
+pub accepted : (madeOf oven .code ≡ 0) × (madeOf (flipSettings ofAction oven) .code ≡ 0) × (madeOf (flipSettings ofTemperatures oven) .code ≡ 0)
+unfolding Loop·madeOf inTable rows
+accepted = (refl, refl, refl)
+
+-- ---- what a sample rounds
+
+-- (pv × F - y) × alpha: the filter's step
+abbrev follow : Loop → ℤ → ℤ
+follow l pv = (pv *ℤ pos F -ℤ l .y) *ℤ fixedOf l .alpha
+
+-- kd × s × (y - y'): D
+abbrev slope : Loop → ℤ → ℤ
+slope l pv = fixedOf l .kd *ℤ fixedOf l .sign *ℤ (l .y -ℤ sensedAt l pv .y)
+
+-- U: the output
+abbrev level : Loop → ℤ → ℤ
+level l pv = limitedV (fixedOf l) (movingOf l) (sensedAt l pv)
+
+-- kt × (U - v): the share of kt
+abbrev backed : Loop → ℤ → ℤ
+backed l pv = fixedOf l .kt *ℤ (level l pv -ℤ vOf (fixedOf l) (movingOf l) (sensedAt l pv))
+
+-- ---- the deliveries, and where they lead
+
+abbrev send : ℕ → Command → Delivery Command
+send number c = record { number = number; command = c }
+
+-- the put takes u to hi. The sixth is a transfer sample: y moves by half a fine unit and D is half of one. Of the seventh v
+-- lies one fine unit past hi, and kt gives half of it back. Of the tenth U is 999.5. Then a repeat, a gap and a refused put
+abbrev sent : List (Delivery Command)
+sent =
+    send 1 (Put (pos 1000))
+    ∷ send 2 (Sample (pos 0))
+    ∷ send 3 (Sample (negsuc 0))
+    ∷ send 4 Automatic
+    ∷ send 5 (Set (pos 1))
+    ∷ send 6 (Sample (pos 0))
+    ∷ send 7 (Sample (pos 0))
+    ∷ send 8 (Set (pos 2))
+    ∷ send 9 (Sample (pos 0))
+    ∷ send 10 (Sample (pos 1))
+    ∷ send 10 (Sample (pos 1))
+    ∷ send 12 (Sample (pos 1))
+    ∷ send 11 (Put (pos 50))
+    ∷ []
+
+-- the oven's record after the first n of them, and its mirror image's
+abbrev ovenAfter : ℕ → Numbered
+ovenAfter n = after handedBack (madeOf oven .state) (take n sent)
+
+abbrev imageAfter : Mirror → ℕ → Numbered
+imageAfter k n = after handedBack (madeOf (flipSettings k oven) .state) (map (flipDelivery k) (take n sent))
+
+-- ---- each place that rounds meets a half, of either sign
+
+abbrev half : ℤ
+half = pos 32768
+
+-- what the sixth sample rounds for the filter and for D, the seventh by kt, the tenth for the output
+abbrev rounds : (ℕ → Numbered) → (ℤ → ℤ) → List ℤ
+rounds at seen =
+    follow (at 5 .state) (seen (pos 0)) ∷ slope (at 5 .state) (seen (pos 0)) ∷ backed (at 6 .state) (seen (pos 0)) ∷ level (at 9 .state) (seen (pos 1)) ∷ []
+
+pub halves :
+    (rounds ovenAfter (λ z. z) ≡ half ∷ negℤ half ∷ negℤ half ∷ fine 999 50 ∷ [])
+    × (rounds (imageAfter ofAction) (flipTemperature ofAction) ≡ half ∷ half ∷ half ∷ negℤ (fine 999 50) ∷ [])
+    × (rounds (imageAfter ofTemperatures) (flipTemperature ofTemperatures) ≡ negℤ half ∷ half ∷ half ∷ negℤ (fine 999 50) ∷ [])
+unfolding Loop·madeOf rounded rows inTable valid lesser greater limited ramped filtered derivative sensedOf clamped backCalculated integrated actedOf sampleOf stepOf refusalOf isLast foundBy servedOf deliveredOf after each
+halves = (refl, refl, refl)
+
+-- ---- the plain law: the tenth sample, which the oven rounds to 1000
+
+pub law-half :
+    (lawOf (ovenAfter 9 .state) (Sample (pos 1)) .state .u ≡ pos 1000)
+    × (lawOf (imageAfter ofAction 9 .state) (Sample (pos 1)) .state .u ≡ negℤ (pos 1000))
+    × (lawOf (imageAfter ofTemperatures 9 .state) (Sample (negℤ (pos 1))) .state .u ≡ negℤ (pos 1000))
+unfolding Loop·madeOf rounded rows inTable valid lesser greater limited ramped filtered derivative sensedOf clamped backCalculated integrated actedOf sampleOf stepOf refusalOf isLast foundBy servedOf deliveredOf after each lawOf
+law-half = (refl, refl, refl)
+
+-- ---- the deliveries: their answers, and the end records
+
+-- the codes and numbers, with the output that stands throughout
+abbrev answersWith : ℤ → List (Answer ℤ)
+answersWith u =
+    map (λ n. record { code = 0; output = u; number = n }) (1 ∷ 2 ∷ 3 ∷ 4 ∷ 5 ∷ 6 ∷ 7 ∷ 8 ∷ 9 ∷ 10 ∷ 10 ∷ [])
+    ++ map (λ code. record { code = code; output = u; number = 10 }) (3 ∷ 6 ∷ [])
+
+pub same-answers :
+    (each handedBack answered (madeOf oven .state) sent ≡ answersWith (pos 1000))
+    × (each handedBack answered (madeOf (flipSettings ofAction oven) .state) (map (flipDelivery ofAction) sent) ≡ answersWith (negℤ (pos 1000)))
+    × (each handedBack answered (madeOf (flipSettings ofTemperatures oven) .state) (map (flipDelivery ofTemperatures) sent) ≡ answersWith (negℤ (pos 1000)))
+unfolding Loop·madeOf rounded rows inTable valid lesser greater limited ramped filtered derivative sensedOf clamped backCalculated integrated actedOf sampleOf stepOf refusalOf isLast foundBy servedOf deliveredOf after each
+same-answers = (refl, refl, refl)
+
+-- u, I, w and y
+abbrev four : Numbered → List ℤ
+four s = s .state .u ∷ s .state .integral ∷ s .state .w ∷ s .state .y ∷ []
+
+-- "every output and the integral change sign, w and y do not"; "outputs, integral, w and y all change sign"
+pub ends :
+    (four (ovenAfter 13) ≡ pos 1000 ∷ fine 750 0 ∷ pos 500 ∷ fine 1 0 ∷ [])
+    × (four (imageAfter ofAction 13) ≡ negℤ (pos 1000) ∷ negℤ (fine 750 0) ∷ pos 500 ∷ fine 1 0 ∷ [])
+    × (four (imageAfter ofTemperatures 13) ≡ negℤ (pos 1000) ∷ negℤ (fine 750 0) ∷ negℤ (pos 500) ∷ negℤ (fine 1 0) ∷ [])
+unfolding Loop·madeOf rounded rows inTable valid lesser greater limited ramped filtered derivative sensedOf clamped backCalculated integrated actedOf sampleOf stepOf refusalOf isLast foundBy servedOf deliveredOf after each
+ends = (refl, refl, refl)
+
+-- ---- a replay of the ninth and the tenth sample, into a list of three
+
+abbrev outputs : Numbered → (ℤ → ℤ) → List ℤ → List ℤ
+outputs s seen out = writtenOf s 9 (map seen (pos 0 ∷ pos 1 ∷ [])) out
+
+pub replayed :
+    (outputs (ovenAfter 8) (λ z. z) (pos 7 ∷ pos 7 ∷ pos 7 ∷ []) ≡ pos 1000 ∷ pos 1000 ∷ pos 7 ∷ [])
+    × (outputs (imageAfter ofAction 8) (flipTemperature ofAction) (negℤ (pos 7) ∷ negℤ (pos 7) ∷ negℤ (pos 7) ∷ []) ≡ negℤ (pos 1000) ∷ negℤ (pos 1000) ∷ negℤ (pos 7) ∷ [])
+    × (outputs (imageAfter ofTemperatures 8) (flipTemperature ofTemperatures) (negℤ (pos 7) ∷ negℤ (pos 7) ∷ negℤ (pos 7) ∷ []) ≡ negℤ (pos 1000) ∷ negℤ (pos 1000) ∷ negℤ (pos 7) ∷ [])
+unfolding Loop·madeOf rounded rows inTable valid lesser greater limited ramped filtered derivative sensedOf clamped backCalculated integrated actedOf sampleOf stepOf refusalOf isLast foundBy servedOf deliveredOf after each firstBad numbered replayRefusal writtenOf
+replayed = (refl, refl, refl)
+
+-- ---- "no value being the least of its type"
+
+-- the first mirror leaves temperatures, so a sample's value may be the least
+pub least-left : Opposed ofAction (Sample leastValue)
+least-left = record { left = λ _. refl }
+
+-- but there is no opposite put of the least
+pub least-put : (k : Mirror) → Opposed k (Put leastValue) → ⊥
+least-put k o = least-turned leastValue (o .left) refl
