@@ -4,10 +4,8 @@ use mathlib.Core.Path.{_≡_, refl, sym, ap, subst, _∙_}
 use mathlib.Core.Bool.{true}
 use mathlib.Core.List.{List, map}
 use lib.Dec.{eqb}
-use lib.IntN.{ℤ, negℤ-negℤ}
 use Rattle.whole.proofs.Truth.{never, both, by-test, push}
 use Rattle.command.specs.declared.Command.{Command}
-use Rattle.command.specs.declared.Command.the-variants.{Sample, Hold, Put, Automatic, Target, Set}
 use Rattle.command.specs.Command.{same}
 use Rattle.command.specs.Sequence.{after, each}
 use Rattle.command.proofs.Same.{same-equal, same-self}
@@ -25,25 +23,13 @@ use Rattle.delivery.specs.declared.numbered.Numbered.{Numbered}
 use Rattle.delivery.specs.declared.numbered.Delivered.{Delivered}
 use Rattle.delivery.specs.Numbered.{memoryOk, validOf, servedOf, deliveredOf}
 use Rattle.delivery.specs.Demand3.{answerIn, answered, handedBack}
-use Rattle.mirror.specs.Mirror.{Mirror, ofAction, ofTemperatures, flipTemperature, flipCommand, flipLast, flipNumbered, flipDelivery, flipAnswer, flipDelivered}
+use Rattle.mirror.specs.Mirror.{Mirror, flipCommand, flipLast, flipNumbered, flipDelivery, flipAnswer, flipDelivered}
+use Rattle.mirror.proofs.Twice.{command-twice}
 use Rattle.mirror.proofs.Loops.{valid-mirror, refusal-mirror, step-mirror}
 
 -- ---- the same command
 
-temperature-twice : (k : Mirror) (z : ℤ) → flipTemperature k (flipTemperature k z) ≡ z
-temperature-twice ofAction z = refl
-temperature-twice ofTemperatures z = negℤ-negℤ z
-
--- a command's mirror image has the command for its own
-command-twice : (k : Mirror) (c : Command) → flipCommand k (flipCommand k c) ≡ c
-command-twice k (Sample pv) = ap Sample (temperature-twice k pv)
-command-twice k Hold = refl
-command-twice k (Put x) = ap Put (negℤ-negℤ x)
-command-twice k Automatic = refl
-command-twice k (Target t r) = ap (λ (z : ℤ). Target z r) (temperature-twice k t)
-command-twice k (Set n) = refl
-
--- so two commands are the same exactly where their mirror images are
+-- two commands are the same exactly where their mirror images are
 same-there : (k : Mirror) (a b : Command) → same a b ≡ true → same (flipCommand k a) (flipCommand k b) ≡ true
 same-there k a b e =
     subst (λ (c : Command). same (flipCommand k a) (flipCommand k c) ≡ true) (same-equal a b e) (same-self (flipCommand k a))

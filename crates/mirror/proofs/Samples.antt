@@ -7,7 +7,7 @@ use lib.Signed.{ltZ, _≤ℤ_}
 use Rattle.whole.proofs.Truth.{by-test, push}
 use Rattle.whole.proofs.Parts.{zs}
 use Rattle.whole.proofs.Lin.{Lin, at, lins}
-use Rattle.whole.proofs.Negated.{mul-neg, neg-mul, negs, lt-neg}
+use Rattle.whole.proofs.Negated.{mul-neg, neg-mul, negs, neg-sub, lt-neg}
 use Rattle.pid.specs.declared.sample.Fixed.{Fixed}
 use Rattle.pid.specs.declared.sample.Moving.{Moving}
 use Rattle.pid.specs.declared.sample.Sensed.{Sensed}
@@ -57,20 +57,12 @@ no-way w t r e h =
     let D : Lin (t -ℤ w) = search lins in
     by-test (ltZ r (t -ℤ w)) (λ d. absurd (omega (arith, zs))) (λ d. rw d (omega (arith, zs)))
 
-turned : (a b : ℤ) → negℤ a -ℤ negℤ b ≡ b -ℤ a
-turned a b =
-    let A = at a in
-    let B = at b in
-    let L : Lin (negℤ a -ℤ negℤ b) = search lins in
-    let R : Lin (b -ℤ a) = search lins in
-    omega (arith, zs)
-
 ramped-neg : (w t r : ℤ) → pos 0 ≤ℤ r → ramped (negℤ w) (negℤ t) r ≡ negℤ (ramped w t r)
 unfolding ramped
 ramped-neg w t r h =
     let W = at w in
     let T = at t in
-    rw (lt-neg w t, turned t w, turned w t)
+    rw (lt-neg w t, neg-sub t w, neg-sub w t)
     (by-test (ltZ w t)
     (λ e. by-test (ltZ t w) (λ d. absurd (omega (arith, zs))) (λ d. rw (e, d) (sym (negℤ-+ℤ w (lesser r (t -ℤ w))))))
     (λ e. by-test (ltZ t w)

@@ -1,15 +1,15 @@
 -- Mirrored settings, and the tests of ranges.
 use Prim.Native.Nat.{ℕ}
 use mathlib.Core.Path.{_≡_, refl, sym, ap, _∙_}
-use mathlib.Core.Bool.{Bool, true, false, _&&_}
+use mathlib.Core.Bool.{Bool, _&&_}
 use native.Mathlib.Omega.{arith}
 use lib.IntN.{ℤ, pos, negℤ, _-ℤ_, negℤ-negℤ}
 use lib.Signed.{leZ}
 use Rattle.whole.specs.Numbers.{eqZ, inside}
-use Rattle.whole.proofs.Truth.{by-test}
+use Rattle.whole.proofs.Truth.{by-test, and-comm, and-swap}
 use Rattle.whole.proofs.Parts.{zs}
 use Rattle.whole.proofs.Lin.{Lin, at, lins}
-use Rattle.whole.proofs.Negated.{lt-neg, eqZ-neg, inside-neg, and-comm}
+use Rattle.whole.proofs.Negated.{lt-neg, eqZ-neg, inside-neg}
 use Rattle.settings.specs.declared.Settings.{Settings}
 use Rattle.settings.specs.Table.{reach, rows}
 use Rattle.settings.specs.Settings.{inTable, ordered, settingsRefusal}
@@ -45,18 +45,13 @@ range-action ofTemperatures a = refl
 
 -- ---- the table
 
-swap : (a b c : Bool) → (a && (b && c)) ≡ (b && (a && c))
-swap true b c = refl
-swap false true c = refl
-swap false false c = refl
-
 -- the rows action, lo, hi, out and sp: lo and hi change places. The rows after them stay, whatever they are
 heads : (k : Mirror) (s : Settings) (rest : Bool) →
     (inside (pos 0) (pos 1) (flipAction k (s .action)) && (inReach (negℤ (s .hi)) && (inReach (negℤ (s .lo)) && (inReach (negℤ (s .out)) && (inReach (flipTemperature k (s .sp)) && rest)))))
     ≡ (inside (pos 0) (pos 1) (s .action) && (inReach (s .lo) && (inReach (s .hi) && (inReach (s .out) && (inReach (s .sp) && rest)))))
 heads k s rest =
     rw (range-action k (s .action), range-neg reach (s .hi), range-neg reach (s .lo), range-neg reach (s .out), range-temperature k reach (s .sp))
-    (ap (λ (b : Bool). inside (pos 0) (pos 1) (s .action) && b) (swap (inReach (s .hi)) (inReach (s .lo)) _))
+    (ap (λ (b : Bool). inside (pos 0) (pos 1) (s .action) && b) (and-swap (inReach (s .hi)) (inReach (s .lo)) _))
 
 pub table-mirror : (k : Mirror) (s : Settings) → inTable (flipSettings k s) ≡ inTable s
 unfolding inTable rows

@@ -1,6 +1,6 @@
 -- Laws of `nearest`, each shown once, for any number and any divisor. Whoever rounds goes by these.
 use Prim.Native.Nat.{ℕ, suc, _+_, _*_, _≤_, _<_}
-use mathlib.Core.Path.{_≡_, refl, sym, _∙_}
+use mathlib.Core.Path.{_≡_, refl, sym}
 use native.Mathlib.Omega.{arith}
 use native.Mathlib.Nat.{div-add-mod', mod-lt, lt-of-mul-lt-mul-right}
 use lib.Dec.{lit<}
@@ -44,16 +44,17 @@ half-zero n h = let a = in-order (halfUp 0 n) 0 n (omega (arith, half-low 0 n)) 
 
 -- ---- the two parts of a rounded number
 
-pub plus-nearest : (x : ℤ) (n : ℕ) → 0 < n → plus (nearest x n) ≡ halfUp (plus x) n
+plus-nearest : (x : ℤ) (n : ℕ) → 0 < n → plus (nearest x n) ≡ halfUp (plus x) n
 plus-nearest (pos a) n h = refl
 plus-nearest (negsuc a) n h = rw (plus-neg, half-zero n h)
 
-pub minus-nearest : (x : ℤ) (n : ℕ) → 0 < n → minus (nearest x n) ≡ halfUp (minus x) n
+minus-nearest : (x : ℤ) (n : ℕ) → 0 < n → minus (nearest x n) ≡ halfUp (minus x) n
 minus-nearest (pos a) n h = sym (half-zero n h)
 minus-nearest (negsuc a) n h = rw minus-neg
 
 -- ---- what rounding means
 
+-- the two bounds, and the rule for halves
 pub nearest-is : (x : ℤ) (n : ℕ) → 0 < n → IsNearest x n (nearest x n)
 nearest-is (pos a) n h =
     let q = halfUp a n in
@@ -99,6 +100,7 @@ below x n r s a b =
     (λ e. let d = a .down (omega (arith, zs)) in let f = b .near in omega (arith, zs))
     (λ e. let d = b .up (omega (arith, zs)) in let f = a .near in omega (arith, zs)))
 
+-- they determine it
 pub nearest-only : (x : ℤ) (n : ℕ) (r : ℤ) → 0 < n → IsNearest x n r → nearest x n ≡ r
 nearest-only x n r h a =
     let b = nearest-is x n h in
@@ -110,7 +112,7 @@ nearest-only x n r h a =
 
 -- ---- laws
 
--- rounding is odd
+-- it is odd: the opposite of x gives the opposite result
 pub nearest-neg : (x : ℤ) (n : ℕ) → 0 < n → nearest (negℤ x) n ≡ negℤ (nearest x n)
 nearest-neg x n h =
     eq-out (nearest (negℤ x) n) (negℤ (nearest x n))
@@ -123,6 +125,7 @@ parts (pos a) (negsuc b) h = absurd (omega (arith, zs))
 parts (negsuc a) (pos b) h = (omega arith, omega arith)
 parts (negsuc a) (negsuc b) h = (omega arith, omega (arith, zs))
 
+-- it is monotone
 pub nearest-mono : (x y : ℤ) (n : ℕ) → 0 < n → x ≤ℤ y → nearest x n ≤ℤ nearest y n
 nearest-mono x y n h le =
     let p = parts x y le in
@@ -130,7 +133,7 @@ nearest-mono x y n h le =
     let down = half-mono (minus y) (minus x) n h (p .1) in
     omega (arith, zs, plus-nearest x n h, minus-nearest x n h, plus-nearest y n h, minus-nearest y n h)
 
--- a multiple of n is not rounded
+-- it is exact at multiples of n
 pub nearest-exact : (k : ℤ) (n : ℕ) → 0 < n → nearest (k *ℤ pos n) n ≡ k
 nearest-exact k n h =
     eq-out (nearest (k *ℤ pos n) n) k

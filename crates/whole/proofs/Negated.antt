@@ -1,14 +1,13 @@
 -- Sums, products and tests of numbers with the other sign.
 use Prim.Native.Nat.{zero, suc}
-use mathlib.Core.Path.{_≡_, refl, sym, ap, _∙_}
-use mathlib.Core.Bool.{Bool, true, false, _&&_}
+use mathlib.Core.Path.{_≡_, sym, ap, _∙_}
 use native.Mathlib.Omega.{arith}
-use lib.IntN.{ℤ, pos, negsuc, negℤ, _*ℤ_, negℤ-negℤ, negℤ-+ℤ, *ℤ-negsuc, *ℤ-zero, *ℤ-comm}
+use lib.IntN.{ℤ, pos, negsuc, negℤ, _-ℤ_, _*ℤ_, negℤ-negℤ, negℤ-+ℤ, *ℤ-negsuc, *ℤ-zero, *ℤ-comm}
 use lib.Signed.{ltZ, leZ}
 use Rattle.whole.specs.Numbers.{eqZ, inside}
-use Rattle.whole.proofs.Truth.{never, by-test}
+use Rattle.whole.proofs.Truth.{never, by-test, and-comm}
 use Rattle.whole.proofs.Parts.{zs, yes-eqZ, no-eqZ, eqZ-yes}
-use Rattle.whole.proofs.Lin.{at, lin-neg}
+use Rattle.whole.proofs.Lin.{Lin, at, lin-neg, lins}
 
 pub mul-neg : (a b : ℤ) → a *ℤ negℤ b ≡ negℤ (a *ℤ b)
 mul-neg a (pos zero) = rw *ℤ-zero
@@ -20,6 +19,14 @@ neg-mul a b = *ℤ-comm (negℤ a) b ∙ mul-neg b a ∙ ap negℤ (*ℤ-comm b 
 
 -- `simp negs` brings every sign before a product and into a sum
 pub ruleset negs = (mul-neg, neg-mul, negℤ-+ℤ, negℤ-negℤ)
+
+pub neg-sub : (a b : ℤ) → negℤ a -ℤ negℤ b ≡ b -ℤ a
+neg-sub a b =
+    let A = at a in
+    let B = at b in
+    let L : Lin (negℤ a -ℤ negℤ b) = search lins in
+    let R : Lin (b -ℤ a) = search lins in
+    omega (arith, zs)
 
 pub lt-neg : (a b : ℤ) → ltZ (negℤ a) (negℤ b) ≡ ltZ b a
 lt-neg a b =
@@ -38,12 +45,6 @@ eqZ-neg a b =
     by-test (eqZ a b)
     (λ e. rw e (yes-eqZ (negℤ a) (negℤ b) (ap negℤ (eqZ-yes a b e))))
     (λ e. rw e (no-eqZ (negℤ a) (negℤ b) (λ q. never (sym e ∙ yes-eqZ a b (sym (negℤ-negℤ a) ∙ ap negℤ q ∙ negℤ-negℤ b)))))
-
-pub and-comm : (a b : Bool) → (a && b) ≡ (b && a)
-and-comm true true = refl
-and-comm true false = refl
-and-comm false true = refl
-and-comm false false = refl
 
 pub inside-neg : (least most x : ℤ) → inside (negℤ most) (negℤ least) (negℤ x) ≡ inside least most x
 inside-neg least most x = rw (le-neg most x, le-neg x least, and-comm (leZ x most) (leZ least x))

@@ -23,6 +23,17 @@ both false u e = never e
 pub and : {t u : Bool} → t ≡ true → u ≡ true → (t && u) ≡ true
 and {t} {u} p q = rw (p, q)
 
+pub and-comm : (a b : Bool) → (a && b) ≡ (b && a)
+and-comm true true = refl
+and-comm true false = refl
+and-comm false true = refl
+and-comm false false = refl
+
+pub and-swap : (a b c : Bool) → (a && (b && c)) ≡ (b && (a && c))
+and-swap true b c = refl
+and-swap false true c = refl
+and-swap false false c = refl
+
 -- what holds of both arms of a choice holds of the choice, with the test known in each
 pub chosen : {A : Type 0} (P : A → Type 0) (b : Bool) {x y : A} → (b ≡ true → P x) → (b ≡ false → P y) → P (cond b x y)
 chosen P true f g = f refl

@@ -1,6 +1,7 @@
 -- 02, REQUEST 3. "Flip only the action, the limits (to -hi..-lo), out and puts: every output and the integral change sign, w and
 -- y do not. Keep the action and flip limits, out, puts, temperatures, sp and targets: outputs, integral, w and y all change sign."
--- What is flipped is written in specs/Mirror.antt, for either mirror k; each statement holds of both.
+-- What is flipped is written in specs/Mirror.antt, for either mirror k; each statement is of both, and of any two records that
+-- mirror each other, `s` and `flipNumbered k s`, also where they break the state rules.
 use Prim.Native.Nat.{ℕ}
 use mathlib.Core.Path.{_≡_, ap}
 use mathlib.Core.List.{List, map}
@@ -25,9 +26,14 @@ use Rattle.delivery.specs.Replay.{replayedOf, writtenOf}
 use Rattle.mirror.specs.Mirror.{Mirror, ofAction, ofTemperatures, flipTemperature, flipSettings, flipCommand, flipLoop, flipObeyed, flipNumbered, flipDelivery, flipAnswer, flipDelivered, flipReplayed, Held, Opposed}
 use Rattle.mirror.proofs.Settings.{settings-mirror}
 use Rattle.mirror.proofs.Loops.{fresh-mirror, law-mirror}
+use Rattle.mirror.proofs.Twice.{numbered-twice}
 use Rattle.mirror.proofs.Deliveries.{valid-of-mirror, delivered-mirror, after-mirror, answers-mirror}
 use Rattle.mirror.proofs.Replays.{replayed-mirror, written-mirror}
 use Rattle.mirror.proofs.Held.{held-mirror}
+
+-- each of two records that mirror each other is the image of the other
+pub twice : (k : Mirror) (s : Numbered) → flipNumbered k (flipNumbered k s) ≡ s
+twice = numbered-twice
 
 -- ---- settings and the loops made from them
 
@@ -48,7 +54,7 @@ made-state k s z =
 pub rules : (k : Mirror) (s : Numbered) → validOf (flipNumbered k s) ≡ validOf s
 rules = valid-of-mirror
 
--- ---- the plain law, from any two records that mirror each other, also those that break the state rules
+-- ---- the plain law
 
 -- one command: the same code, and the records handed back mirror each other
 pub law : (k : Mirror) (l : Loop) (c : Command) → lawOf (flipLoop k l) (flipCommand k c) ≡ flipObeyed k (lawOf l c)
@@ -69,7 +75,7 @@ law-answers k l cs =
 pub law-end : (k : Mirror) (l : Loop) (cs : List Command) → after obeying (flipLoop k l) (map (flipCommand k) cs) ≡ flipLoop k (after obeying l cs)
 law-end k l cs = after-through (flipLoop k) (flipCommand k) obeying obeying (obeying-mirror k) l cs
 
--- ---- numbered delivery, from any two records that mirror each other
+-- ---- numbered delivery
 
 pub delivery : (k : Mirror) (s : Numbered) (n : ℕ) (c : Command) → deliveredOf (flipNumbered k s) n (flipCommand k c) ≡ flipDelivered k (deliveredOf s n c)
 delivery = delivered-mirror
@@ -115,7 +121,7 @@ temperatures-flipped s ds =
     let e = image-is ofTemperatures s ds in
     (ap (λ (l : Loop). l .u) e, ap (λ (l : Loop). l .integral) e, ap (λ (l : Loop). l .w) e, ap (λ (l : Loop). l .y) e)
 
--- ---- a replay, from any two records that mirror each other
+-- ---- a replay
 
 -- the same code, place and count
 pub replay : (k : Mirror) (s : Numbered) (first : ℕ) (samples : List ℤ) (room : ℕ) →

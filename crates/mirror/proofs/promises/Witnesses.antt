@@ -80,13 +80,13 @@ level l pv = limitedV (fixedOf l) (movingOf l) (sensedAt l pv)
 abbrev backed : Loop → ℤ → ℤ
 backed l pv = fixedOf l .kt *ℤ (level l pv -ℤ vOf (fixedOf l) (movingOf l) (sensedAt l pv))
 
--- ---- the deliveries, and where they lead
+-- ---- the deliveries
 
 abbrev send : ℕ → Command → Delivery Command
 send number c = record { number = number; command = c }
 
--- the put takes u to hi. The sixth is a transfer sample: y moves by half a fine unit and D is half of one. Of the seventh v
--- lies one fine unit past hi, and kt gives half of it back. Of the tenth U is 999.5. Then a repeat, a gap and a refused put
+-- the put takes u to hi. The sixth is a transfer sample: y moves by half a fine unit, and D is half of one. Of the seventh v
+-- lies one fine unit past hi, and kt gives half of it back. Of the tenth U is 998.5. Then a repeat, a gap and a refused put
 abbrev sent : List (Delivery Command)
 sent =
     send 1 (Put (pos 1000))
@@ -98,83 +98,87 @@ sent =
     ∷ send 7 (Sample (pos 0))
     ∷ send 8 (Set (pos 2))
     ∷ send 9 (Sample (pos 0))
-    ∷ send 10 (Sample (pos 1))
-    ∷ send 10 (Sample (pos 1))
-    ∷ send 12 (Sample (pos 1))
+    ∷ send 10 (Sample (pos 3))
+    ∷ send 10 (Sample (pos 3))
+    ∷ send 12 (Sample (pos 3))
     ∷ send 11 (Put (pos 50))
     ∷ []
 
--- the oven's record after the first n of them, and its mirror image's
-abbrev ovenAfter : ℕ → Numbered
-ovenAfter n = after handedBack (madeOf oven .state) (take n sent)
+-- ---- what they show of a loop that is made from settings
 
-abbrev imageAfter : Mirror → ℕ → Numbered
-imageAfter k n = after handedBack (madeOf (flipSettings k oven) .state) (map (flipDelivery k) (take n sent))
+pub record Shown : Type 0 where
+  -- what the sixth sample rounds for the filter and for D, the seventh by kt, the tenth for the output
+  pub halves : List ℤ
+  -- the answers: a code, an output and a number each
+  pub answers : List (Answer ℤ)
+  -- u, I, w and y after all of them
+  pub four : List ℤ
+  -- the tenth under the plain law: code and u
+  pub law : ℕ × ℤ
+  -- the ninth and the tenth as a replay, into a list of three
+  pub written : List ℤ
 
--- ---- each place that rounds meets a half, of either sign
+-- the record after the first n of them
+abbrev recordAfter : Settings → List (Delivery Command) → ℕ → Numbered
+recordAfter s ds n = after handedBack (madeOf s .state) (take n ds)
+
+-- ds is the list as it is delivered, temperature what becomes of a temperature, blank what stands in the replay's list before
+abbrev shownOf : Settings → List (Delivery Command) → (ℤ → ℤ) → ℤ → Shown
+shownOf s ds temperature blank =
+    let at = recordAfter s ds in
+    let zero = temperature (pos 0) in
+    let three = temperature (pos 3) in
+    let tenth = lawOf (at 9 .state) (Sample three) in
+    let end = at 13 .state in
+    record {
+      halves = follow (at 5 .state) zero ∷ slope (at 5 .state) zero ∷ backed (at 6 .state) zero ∷ level (at 9 .state) three ∷ [];
+      answers = each handedBack answered (madeOf s .state) ds;
+      four = end .u ∷ end .integral ∷ end .w ∷ end .y ∷ [];
+      law = (tenth .code, tenth .state .u);
+      written = writtenOf (at 8) 9 (zero ∷ three ∷ []) (blank ∷ blank ∷ blank ∷ []);
+    }
+
+abbrev imageShown : Mirror → Shown
+imageShown k = shownOf (flipSettings k oven) (map (flipDelivery k) sent) (flipTemperature k) (negℤ (pos 7))
 
 abbrev half : ℤ
 half = pos 32768
 
--- what the sixth sample rounds for the filter and for D, the seventh by kt, the tenth for the output
-abbrev rounds : (ℕ → Numbered) → (ℤ → ℤ) → List ℤ
-rounds at seen =
-    follow (at 5 .state) (seen (pos 0)) ∷ slope (at 5 .state) (seen (pos 0)) ∷ backed (at 6 .state) (seen (pos 0)) ∷ level (at 9 .state) (seen (pos 1)) ∷ []
+-- the codes and numbers, with the output before the tenth and from there on
+abbrev answersWith : ℤ → ℤ → List (Answer ℤ)
+answersWith u v =
+    map (λ n. record { code = 0; output = u; number = n }) (1 ∷ 2 ∷ 3 ∷ 4 ∷ 5 ∷ 6 ∷ 7 ∷ 8 ∷ 9 ∷ [])
+    ++ map (λ code. record { code = code; output = v; number = 10 }) (0 ∷ 0 ∷ 3 ∷ 6 ∷ [])
 
-pub halves :
-    (rounds ovenAfter (λ z. z) ≡ half ∷ negℤ half ∷ negℤ half ∷ fine 999 50 ∷ [])
-    × (rounds (imageAfter ofAction) (flipTemperature ofAction) ≡ half ∷ half ∷ half ∷ negℤ (fine 999 50) ∷ [])
-    × (rounds (imageAfter ofTemperatures) (flipTemperature ofTemperatures) ≡ negℤ half ∷ half ∷ half ∷ negℤ (fine 999 50) ∷ [])
-unfolding Loop·madeOf rounded rows inTable valid lesser greater limited ramped filtered derivative sensedOf clamped backCalculated integrated actedOf sampleOf stepOf refusalOf isLast foundBy servedOf deliveredOf after each
-halves = (refl, refl, refl)
-
--- ---- the plain law: the tenth sample, which the oven rounds to 1000
-
-pub law-half :
-    (lawOf (ovenAfter 9 .state) (Sample (pos 1)) .state .u ≡ pos 1000)
-    × (lawOf (imageAfter ofAction 9 .state) (Sample (pos 1)) .state .u ≡ negℤ (pos 1000))
-    × (lawOf (imageAfter ofTemperatures 9 .state) (Sample (negℤ (pos 1))) .state .u ≡ negℤ (pos 1000))
-unfolding Loop·madeOf rounded rows inTable valid lesser greater limited ramped filtered derivative sensedOf clamped backCalculated integrated actedOf sampleOf stepOf refusalOf isLast foundBy servedOf deliveredOf after each lawOf
-law-half = (refl, refl, refl)
-
--- ---- the deliveries: their answers, and the end records
-
--- the codes and numbers, with the output that stands throughout
-abbrev answersWith : ℤ → List (Answer ℤ)
-answersWith u =
-    map (λ n. record { code = 0; output = u; number = n }) (1 ∷ 2 ∷ 3 ∷ 4 ∷ 5 ∷ 6 ∷ 7 ∷ 8 ∷ 9 ∷ 10 ∷ 10 ∷ [])
-    ++ map (λ code. record { code = code; output = u; number = 10 }) (3 ∷ 6 ∷ [])
-
-pub same-answers :
-    (each handedBack answered (madeOf oven .state) sent ≡ answersWith (pos 1000))
-    × (each handedBack answered (madeOf (flipSettings ofAction oven) .state) (map (flipDelivery ofAction) sent) ≡ answersWith (negℤ (pos 1000)))
-    × (each handedBack answered (madeOf (flipSettings ofTemperatures oven) .state) (map (flipDelivery ofTemperatures) sent) ≡ answersWith (negℤ (pos 1000)))
-unfolding Loop·madeOf rounded rows inTable valid lesser greater limited ramped filtered derivative sensedOf clamped backCalculated integrated actedOf sampleOf stepOf refusalOf isLast foundBy servedOf deliveredOf after each
-same-answers = (refl, refl, refl)
-
--- u, I, w and y
-abbrev four : Numbered → List ℤ
-four s = s .state .u ∷ s .state .integral ∷ s .state .w ∷ s .state .y ∷ []
-
--- "every output and the integral change sign, w and y do not"; "outputs, integral, w and y all change sign"
-pub ends :
-    (four (ovenAfter 13) ≡ pos 1000 ∷ fine 750 0 ∷ pos 500 ∷ fine 1 0 ∷ [])
-    × (four (imageAfter ofAction 13) ≡ negℤ (pos 1000) ∷ negℤ (fine 750 0) ∷ pos 500 ∷ fine 1 0 ∷ [])
-    × (four (imageAfter ofTemperatures 13) ≡ negℤ (pos 1000) ∷ negℤ (fine 750 0) ∷ negℤ (pos 500) ∷ negℤ (fine 1 0) ∷ [])
-unfolding Loop·madeOf rounded rows inTable valid lesser greater limited ramped filtered derivative sensedOf clamped backCalculated integrated actedOf sampleOf stepOf refusalOf isLast foundBy servedOf deliveredOf after each
-ends = (refl, refl, refl)
-
--- ---- a replay of the ninth and the tenth sample, into a list of three
-
-abbrev outputs : Numbered → (ℤ → ℤ) → List ℤ → List ℤ
-outputs s seen out = writtenOf s 9 (map seen (pos 0 ∷ pos 1 ∷ [])) out
-
-pub replayed :
-    (outputs (ovenAfter 8) (λ z. z) (pos 7 ∷ pos 7 ∷ pos 7 ∷ []) ≡ pos 1000 ∷ pos 1000 ∷ pos 7 ∷ [])
-    × (outputs (imageAfter ofAction 8) (flipTemperature ofAction) (negℤ (pos 7) ∷ negℤ (pos 7) ∷ negℤ (pos 7) ∷ []) ≡ negℤ (pos 1000) ∷ negℤ (pos 1000) ∷ negℤ (pos 7) ∷ [])
-    × (outputs (imageAfter ofTemperatures 8) (flipTemperature ofTemperatures) (negℤ (pos 7) ∷ negℤ (pos 7) ∷ negℤ (pos 7) ∷ []) ≡ negℤ (pos 1000) ∷ negℤ (pos 1000) ∷ negℤ (pos 7) ∷ [])
-unfolding Loop·madeOf rounded rows inTable valid lesser greater limited ramped filtered derivative sensedOf clamped backCalculated integrated actedOf sampleOf stepOf refusalOf isLast foundBy servedOf deliveredOf after each firstBad numbered replayRefusal writtenOf
-replayed = (refl, refl, refl)
+-- the oven; the cooler: "every output and the integral change sign, w and y do not"; the cold oven: "outputs, integral, w and y
+-- all change sign". Each place that rounds meets a half, of either sign in one of the three or another
+pub mirrored :
+    (shownOf oven sent (λ z. z) (pos 7)
+    ≡ record {
+      halves = half ∷ negℤ half ∷ negℤ half ∷ fine 998 50 ∷ [];
+      answers = answersWith (pos 1000) (pos 999);
+      four = pos 999 ∷ fine 750 0 ∷ pos 500 ∷ fine 3 0 ∷ [];
+      law = (0, pos 999);
+      written = pos 1000 ∷ pos 999 ∷ pos 7 ∷ [];
+    })
+    × (imageShown ofAction
+    ≡ record {
+      halves = half ∷ half ∷ half ∷ negℤ (fine 998 50) ∷ [];
+      answers = answersWith (negℤ (pos 1000)) (negℤ (pos 999));
+      four = negℤ (pos 999) ∷ negℤ (fine 750 0) ∷ pos 500 ∷ fine 3 0 ∷ [];
+      law = (0, negℤ (pos 999));
+      written = negℤ (pos 1000) ∷ negℤ (pos 999) ∷ negℤ (pos 7) ∷ [];
+    })
+    × (imageShown ofTemperatures
+    ≡ record {
+      halves = negℤ half ∷ half ∷ half ∷ negℤ (fine 998 50) ∷ [];
+      answers = answersWith (negℤ (pos 1000)) (negℤ (pos 999));
+      four = negℤ (pos 999) ∷ negℤ (fine 750 0) ∷ negℤ (pos 500) ∷ negℤ (fine 3 0) ∷ [];
+      law = (0, negℤ (pos 999));
+      written = negℤ (pos 1000) ∷ negℤ (pos 999) ∷ negℤ (pos 7) ∷ [];
+    })
+unfolding Loop·madeOf rounded rows inTable valid lesser greater limited ramped filtered derivative sensedOf clamped backCalculated integrated actedOf sampleOf stepOf refusalOf lawOf isLast foundBy servedOf deliveredOf after each firstBad numbered replayRefusal writtenOf
+mirrored = (refl, refl, refl)
 
 -- ---- "no value being the least of its type"
 
