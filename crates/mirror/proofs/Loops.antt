@@ -30,8 +30,7 @@ fresh-mirror ofTemperatures s = refl
 pub valid-mirror : (k : Mirror) (l : Loop) → valid (flipLoop k l) ≡ valid l
 unfolding valid
 valid-mirror k l =
-    rw (table-mirror k (l .settings), ordered-mirror k (l .settings), range-temperature k reach (l .w), range-temperature k reach (l .target))
-    (rw (inside-neg (l .settings .lo) (l .settings .hi) (l .u), range-neg B (l .integral), range-temperature k fineReach (l .y), zero-temperature k (l .y)))
+    simp (table-mirror k (l .settings), ordered-mirror k (l .settings), range-temperature k reach (l .w), range-temperature k reach (l .target), inside-neg (l .settings .lo) (l .settings .hi) (l .u), range-neg B (l .integral), range-temperature k fineReach (l .y), zero-temperature k (l .y))
 
 pub refusal-mirror : (k : Mirror) (l : Loop) (c : Command) → refusalOf (flipLoop k l) (flipCommand k c) ≡ refusalOf l c
 unfolding refusalOf

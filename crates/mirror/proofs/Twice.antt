@@ -24,24 +24,23 @@ action-twice ofAction a =
     omega (arith, zs)
 action-twice ofTemperatures a = refl
 
+-- `simp twices` takes away every sign that is flipped twice
+ruleset twices = (temperature-twice, action-twice, negℤ-negℤ)
+
 pub command-twice : (k : Mirror) (c : Command) → flipCommand k (flipCommand k c) ≡ c
-command-twice k (Sample pv) = ap Sample (temperature-twice k pv)
+command-twice k (Sample pv) = cc (temperature-twice k pv)
 command-twice k Hold = refl
-command-twice k (Put x) = ap Put (negℤ-negℤ x)
+command-twice k (Put x) = cc (negℤ-negℤ x)
 command-twice k Automatic = refl
-command-twice k (Target t r) = ap (λ (z : ℤ). Target z r) (temperature-twice k t)
+command-twice k (Target t r) = cc (temperature-twice k t)
 command-twice k (Set n) = refl
 
 last-twice : (k : Mirror) (m : Last) → flipLast k (flipLast k m) ≡ m
 last-twice k Nothing = refl
-last-twice k (Kept c) = ap Kept (command-twice k c)
-
-settings-twice : (k : Mirror) (s : Settings) → flipSettings k (flipSettings k s) ≡ s
-settings-twice k s = rw (action-twice k (s .action), negℤ-negℤ (s .lo), negℤ-negℤ (s .hi), negℤ-negℤ (s .out), temperature-twice k (s .sp))
+last-twice k (Kept c) = cc (command-twice k c)
 
 loop-twice : (k : Mirror) (l : Loop) → flipLoop k (flipLoop k l) ≡ l
-loop-twice k l =
-    rw (settings-twice k (l .settings), temperature-twice k (l .w), temperature-twice k (l .target), negℤ-negℤ (l .u), negℤ-negℤ (l .integral), temperature-twice k (l .y))
+loop-twice k l = simp twices
 
 pub numbered-twice : (k : Mirror) (s : Numbered) → flipNumbered k (flipNumbered k s) ≡ s
 numbered-twice k s = rw (loop-twice k (s .state), last-twice k (s .memory .last))
