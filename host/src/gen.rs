@@ -78,14 +78,25 @@ fn extreme_settings(rng: &mut Rng) -> Settings {
 fn lively_settings(rng: &mut Rng) -> Settings {
     let lo = rng.between(-200_000, 0) as i32;
     let hi = rng.between(1, 1_000_000) as i32;
+    settings_within(rng, [lo, hi], 100_000, 5_000, lively_gains)
+}
+
+/// Settings of these limits, with sp so far from 0 and a rate up to this one at most.
+fn settings_within(
+    rng: &mut Rng,
+    [lo, hi]: [i32; 2],
+    sp: i64,
+    rate: i64,
+    gains: fn(&mut Rng) -> GainSet,
+) -> Settings {
     Settings {
         action: rng.below(2) as i32,
         lo,
         hi,
         out: rng.between(i64::from(lo), i64::from(hi)) as i32,
-        sp: rng.between(-100_000, 100_000) as i32,
-        rate: rng.between(1, 5_000) as i32,
-        sets: [(); 4].map(|()| lively_gains(rng)),
+        sp: rng.between(-sp, sp) as i32,
+        rate: rng.between(1, rate) as i32,
+        sets: [(); 4].map(|()| gains(rng)),
     }
 }
 
@@ -103,15 +114,7 @@ fn lively_gains(rng: &mut Rng) -> GainSet {
 fn halving_settings(rng: &mut Rng) -> Settings {
     let lo = rng.between(-3_000, 1_000) as i32;
     let hi = lo + rng.between(1, 2_000) as i32;
-    Settings {
-        action: rng.below(2) as i32,
-        lo,
-        hi,
-        out: rng.between(i64::from(lo), i64::from(hi)) as i32,
-        sp: rng.between(-500, 500) as i32,
-        rate: rng.between(1, 50) as i32,
-        sets: [(); 4].map(|()| halving_gains(rng)),
-    }
+    settings_within(rng, [lo, hi], 500, 50, halving_gains)
 }
 
 /// Gains of one half, which leave a half of every odd number, and of few fine units, which leave

@@ -129,7 +129,7 @@ shownOf s ds temperature blank =
     let zero = temperature (pos 0) in
     let three = temperature (pos 3) in
     let tenth = lawOf (at 9 .state) (Sample three) in
-    let end = at 13 .state in
+    let end = after handedBack (madeOf s .state) ds .state in
     record {
       halves = follow (at 5 .state) zero ∷ slope (at 5 .state) zero ∷ backed (at 6 .state) zero ∷ level (at 9 .state) three ∷ [];
       answers = each handedBack answered (madeOf s .state) ds;
