@@ -19,9 +19,9 @@ use Rattle.pid.specs.Record.{freshOf, valid}
 use Rattle.pid.specs.Law.{signOf, fixedOf, movingOf, sampleOf, stepOf, refusalOf, lawOf}
 use Rattle.pid.proofs.Sound.{Holds, holds-of, within-table, fixed-ok}
 use Rattle.pid.proofs.Shapes.{fixed-is}
-use Rattle.mirror.specs.Mirror.{Mirror, ofAction, ofTemperatures, flipTemperature, flipAction, flipSign, flipSettings, flipCommand, flipFixed, flipLoop, flipObeyed}
+use Rattle.mirror.specs.Mirror.{Mirror, ofAction, ofTemperatures, flipTemperature, flipAction, flipSettings, flipCommand, flipLoop, flipObeyed}
 use Rattle.mirror.proofs.Settings.{range-neg, range-temperature, zero-temperature, table-mirror, ordered-mirror}
-use Rattle.mirror.proofs.Samples.{moved-mirror}
+use Rattle.mirror.proofs.Samples.{flipSign, flipFixed, moved-mirror}
 
 pub fresh-mirror : (k : Mirror) (s : Settings) → freshOf (flipSettings k s) ≡ flipLoop k (freshOf s)
 fresh-mirror ofAction s = refl

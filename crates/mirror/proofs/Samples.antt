@@ -15,7 +15,49 @@ use Rattle.pid.specs.Units.{F, B, rounded}
 use Rattle.pid.specs.Sample.{lesser, greater, limited, ramped, filtered, derivative, errorOf, newW, newY, sensedOf, transferred, shareOf, vOf, limitedV, roomOf, clamped, backCalculated, integrated, newI, actedOf, movedOf}
 use Rattle.pid.proofs.Rounding.{rounded-neg}
 use Rattle.pid.proofs.Shapes.{moving-is, sensed-is}
-use Rattle.mirror.specs.Mirror.{Mirror, ofAction, ofTemperatures, flipTemperature, flipFixed, flipMoving, flipSensed}
+use Rattle.mirror.specs.Mirror.{Mirror, ofAction, ofTemperatures, flipTemperature}
+
+-- ---- the mirror images of what a sample reads, moves and finds
+
+-- the sign s of the action
+abbrev pub flipSign : Mirror → ℤ → ℤ
+flipSign ofAction s = negℤ s
+flipSign ofTemperatures s = s
+
+abbrev pub flipFixed : Mirror → Fixed → Fixed
+flipFixed k f = record {
+  sign = flipSign k (f .sign);
+  lo = negℤ (f .hi);
+  hi = negℤ (f .lo);
+  target = flipTemperature k (f .target);
+  rate = f .rate;
+  automatic = f .automatic;
+  kp = f .kp;
+  ki = f .ki;
+  kd = f .kd;
+  alpha = f .alpha;
+  kt = f .kt;
+}
+
+abbrev pub flipMoving : Mirror → Moving → Moving
+flipMoving k m = record {
+  w = flipTemperature k (m .w);
+  u = negℤ (m .u);
+  integral = negℤ (m .integral);
+  y = flipTemperature k (m .y);
+  primed = m .primed;
+  pending = m .pending;
+}
+
+-- the error, P and D change sign in both mirrors
+abbrev flipSensed : Mirror → Sensed → Sensed
+flipSensed k z = record {
+  w = flipTemperature k (z .w);
+  y = flipTemperature k (z .y);
+  e = negℤ (z .e);
+  p = negℤ (z .p);
+  d = negℤ (z .d);
+}
 
 -- ---- the functions of numbers
 

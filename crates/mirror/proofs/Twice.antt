@@ -1,5 +1,5 @@
 -- A mirror image has the first thing for its own image.
-use mathlib.Core.Path.{_≡_, refl, ap}
+use mathlib.Core.Path.{_≡_, refl}
 use native.Mathlib.Omega.{arith}
 use lib.IntN.{ℤ, pos, _-ℤ_, negℤ-negℤ}
 use Rattle.whole.proofs.Parts.{zs}
@@ -10,8 +10,7 @@ use Rattle.pid.specs.declared.record.Loop.{Loop}
 use Rattle.memory.specs.declared.Last.{Last}
 use Rattle.memory.specs.declared.Last.the-variants.{Nothing, Kept}
 use Rattle.delivery.specs.declared.numbered.Numbered.{Numbered}
-use Rattle.settings.specs.declared.Settings.{Settings}
-use Rattle.mirror.specs.Mirror.{Mirror, ofAction, ofTemperatures, flipTemperature, flipAction, flipSettings, flipCommand, flipLoop, flipLast, flipNumbered}
+use Rattle.mirror.specs.Mirror.{Mirror, ofAction, ofTemperatures, flipTemperature, flipAction, flipCommand, flipLoop, flipLast, flipNumbered}
 
 temperature-twice : (k : Mirror) (z : ℤ) → flipTemperature k (flipTemperature k z) ≡ z
 temperature-twice ofAction z = refl

@@ -7,9 +7,6 @@ use Rattle.settings.specs.declared.Settings.{Settings}
 use Rattle.command.specs.declared.Command.{Command}
 use Rattle.command.specs.declared.Command.the-variants.{Sample, Hold, Put, Automatic, Target, Set}
 use Rattle.command.specs.Command.{valueOf, secondOf}
-use Rattle.pid.specs.declared.sample.Fixed.{Fixed}
-use Rattle.pid.specs.declared.sample.Moving.{Moving}
-use Rattle.pid.specs.declared.sample.Sensed.{Sensed}
 use Rattle.pid.specs.declared.record.Loop.{Loop}
 use Rattle.pid.specs.declared.law.Obeyed.{Obeyed}
 use Rattle.memory.specs.declared.Last.{Last}
@@ -37,11 +34,6 @@ abbrev pub flipAction : Mirror → ℤ → ℤ
 flipAction ofAction a = pos 1 -ℤ a
 flipAction ofTemperatures a = a
 
--- the sign s of the action
-abbrev pub flipSign : Mirror → ℤ → ℤ
-flipSign ofAction s = negℤ s
-flipSign ofTemperatures s = s
-
 -- ---- settings and commands: what the request names
 
 abbrev pub flipSettings : Mirror → Settings → Settings
@@ -62,43 +54,6 @@ flipCommand k (Put x) = Put (negℤ x)
 flipCommand k Automatic = Automatic
 flipCommand k (Target t r) = Target (flipTemperature k t) r
 flipCommand k (Set n) = Set n
-
--- ---- a sample's arithmetic
-
-abbrev pub flipFixed : Mirror → Fixed → Fixed
-flipFixed k f = record {
-  sign = flipSign k (f .sign);
-  lo = negℤ (f .hi);
-  hi = negℤ (f .lo);
-  target = flipTemperature k (f .target);
-  rate = f .rate;
-  automatic = f .automatic;
-  kp = f .kp;
-  ki = f .ki;
-  kd = f .kd;
-  alpha = f .alpha;
-  kt = f .kt;
-}
-
-abbrev pub flipMoving : Mirror → Moving → Moving
-flipMoving k m = record {
-  w = flipTemperature k (m .w);
-  u = negℤ (m .u);
-  integral = negℤ (m .integral);
-  y = flipTemperature k (m .y);
-  primed = m .primed;
-  pending = m .pending;
-}
-
--- the error, P and D change sign in both mirrors
-abbrev pub flipSensed : Mirror → Sensed → Sensed
-flipSensed k z = record {
-  w = flipTemperature k (z .w);
-  y = flipTemperature k (z .y);
-  e = negℤ (z .e);
-  p = negℤ (z .p);
-  d = negℤ (z .d);
-}
 
 -- ---- a loop, and what the plain law answers
 
