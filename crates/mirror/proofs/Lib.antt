@@ -1,6 +1,7 @@
 pub mod Settings
 pub mod Samples
 pub mod Loops
+pub mod Plays
 pub mod Twice
 pub mod Deliveries
 pub mod Replays

@@ -6,18 +6,15 @@ use lib.Dec.{eqb}
 use lib.IntN.{ℤ, negℤ}
 use lib.ListN.{length, length-map}
 use Rattle.whole.proofs.Truth.{push}
-use Rattle.whole.proofs.Lists.{map-join, map-drop}
-use Rattle.settings.specs.Table.{reach}
 use Rattle.command.specs.declared.Command.{Command}
 use Rattle.command.specs.declared.Command.the-variants.{Sample}
-use Rattle.pid.specs.Play.{firstBad}
 use Rattle.memory.specs.Walk.{Delivery, Answer}
 use Rattle.delivery.specs.declared.numbered.Numbered.{Numbered}
 use Rattle.command.specs.Sequence.{each}
 use Rattle.delivery.specs.Demand3.{answered, handedBack}
 use Rattle.delivery.specs.Replay.{numbered, deliveredOutputs, replayRefusal, replayedOf, writtenOf}
 use Rattle.mirror.specs.Mirror.{Mirror, flipTemperature, flipNumbered, flipDelivery, flipAnswer, flipReplayed}
-use Rattle.mirror.proofs.Settings.{range-temperature}
+use Rattle.mirror.proofs.Plays.{bad-mirror, filled-mirror}
 use Rattle.mirror.proofs.Deliveries.{valid-of-mirror, after-mirror, answers-mirror}
 
 numbered-mirror : (k : Mirror) (n : ℕ) (pvs : List ℤ) → numbered n (map (flipTemperature k) pvs) ≡ map (flipDelivery k) (numbered n pvs)
@@ -25,11 +22,6 @@ unfolding numbered
 numbered-mirror k n [] = refl
 numbered-mirror k n (pv ∷ pvs) =
     ap (λ (ds : List (Delivery Command)). record { number = n; command = Sample (flipTemperature k pv) } ∷ ds) (numbered-mirror k (n + 1) pvs)
-
-bad-mirror : (k : Mirror) (pvs : List ℤ) → firstBad (map (flipTemperature k) pvs) ≡ firstBad pvs
-unfolding firstBad
-bad-mirror k [] = refl
-bad-mirror k (pv ∷ pvs) = rw (range-temperature k reach pv, bad-mirror k pvs)
 
 module _ (k : Mirror) (s : Numbered) (first : ℕ) (pvs : List ℤ) where
   refusal-mirror : (room : ℕ) → replayRefusal (flipNumbered k s) first (map (flipTemperature k) pvs) room ≡ replayRefusal s first pvs room
@@ -53,5 +45,5 @@ module _ (k : Mirror) (s : Numbered) (first : ℕ) (pvs : List ℤ) where
   unfolding writtenOf
   written-mirror out =
       rw (length-map out negℤ, refusal-mirror (length out), outputs-mirror)
-      (rw (length-map (deliveredOutputs s first pvs) negℤ, map-drop negℤ, ← map-join negℤ)
+      (rw (filled-mirror (deliveredOutputs s first pvs) out)
       (push (map negℤ) (eqb (replayRefusal s first pvs (length out)) 0) _ _))

@@ -9,6 +9,7 @@ use Rattle.command.specs.declared.Command.the-variants.{Sample, Hold, Put, Auto
 use Rattle.command.specs.Command.{valueOf, secondOf}
 use Rattle.pid.specs.declared.record.Loop.{Loop}
 use Rattle.pid.specs.declared.law.Obeyed.{Obeyed}
+use Rattle.pid.specs.declared.play.Played.{Played}
 use Rattle.memory.specs.declared.Last.{Last}
 use Rattle.memory.specs.declared.Last.the-variants.{Nothing, Kept}
 use Rattle.memory.specs.Walk.{Delivery, Answer}
@@ -74,6 +75,9 @@ flipLoop k l = record {
 
 abbrev pub flipObeyed : Mirror → Obeyed → Obeyed
 flipObeyed k r = record { code = r .code; state = flipLoop k (r .state) }
+
+abbrev pub flipPlayed : Mirror → Played → Played
+flipPlayed k r = record { code = r .code; place = r .place; state = flipLoop k (r .state) }
 
 -- ---- numbered delivery: the same codes, the same numbers
 

@@ -18,14 +18,16 @@ use Rattle.pid.specs.declared.record.Loop.{Loop}
 use Rattle.pid.specs.declared.law.Obeyed.{Obeyed}
 use Rattle.pid.specs.Record.{madeOf as Loop·madeOf}
 use Rattle.pid.specs.Law.{lawOf}
+use Rattle.pid.specs.Play.{playedOf, wroteOf}
 use Rattle.memory.specs.Walk.{Delivery}
 use Rattle.delivery.specs.declared.numbered.Numbered.{Numbered}
 use Rattle.delivery.specs.Numbered.{madeOf, validOf, deliveredOf}
 use Rattle.delivery.specs.Demand3.{handedBack, answered}
 use Rattle.delivery.specs.Replay.{replayedOf, writtenOf}
-use Rattle.mirror.specs.Mirror.{Mirror, ofAction, ofTemperatures, flipTemperature, flipSettings, flipCommand, flipLoop, flipObeyed, flipNumbered, flipDelivery, flipAnswer, flipDelivered, flipReplayed, Held, Opposed}
+use Rattle.mirror.specs.Mirror.{Mirror, ofAction, ofTemperatures, flipTemperature, flipSettings, flipCommand, flipLoop, flipObeyed, flipPlayed, flipNumbered, flipDelivery, flipAnswer, flipDelivered, flipReplayed, Held, Opposed}
 use Rattle.mirror.proofs.Settings.{settings-mirror}
 use Rattle.mirror.proofs.Loops.{fresh-mirror, law-mirror}
+use Rattle.mirror.proofs.Plays.{played-mirror, wrote-mirror}
 use Rattle.mirror.proofs.Twice.{numbered-twice}
 use Rattle.mirror.proofs.Deliveries.{valid-of-mirror, delivered-mirror, after-mirror, answers-mirror}
 use Rattle.mirror.proofs.Replays.{replayed-mirror, written-mirror}
@@ -74,6 +76,15 @@ law-answers k l cs =
 
 pub law-end : (k : Mirror) (l : Loop) (cs : List Command) → after obeying (flipLoop k l) (map (flipCommand k) cs) ≡ flipLoop k (after obeying l cs)
 law-end k l cs = after-through (flipLoop k) (flipCommand k) obeying obeying (obeying-mirror k) l cs
+
+-- any list of samples, with a list whose front takes the outputs: the same code and place
+pub play : (k : Mirror) (l : Loop) (samples : List ℤ) (room : ℕ) →
+    playedOf (flipLoop k l) (map (flipTemperature k) samples) room ≡ flipPlayed k (playedOf l samples room)
+play = played-mirror
+
+pub play-written : (k : Mirror) (l : Loop) (samples out : List ℤ) →
+    wroteOf (flipLoop k l) (map (flipTemperature k) samples) (map negℤ out) ≡ map negℤ (wroteOf l samples out)
+play-written = wrote-mirror
 
 -- ---- numbered delivery
 

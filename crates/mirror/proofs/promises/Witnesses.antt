@@ -18,7 +18,7 @@ use Rattle.pid.specs.Record.{valid, madeOf as Loop·madeOf}
 use Rattle.pid.specs.Sample.{lesser, greater, limited, ramped, filtered, derivative, sensedOf, vOf, limitedV, clamped, backCalculated, integrated, actedOf}
 use Rattle.pid.specs.Law.{fixedOf, movingOf, sampleOf, stepOf, refusalOf, lawOf}
 use Rattle.pid.specs.Run.{sensedAt}
-use Rattle.pid.specs.Play.{firstBad}
+use Rattle.pid.specs.Play.{firstBad, playRefusal, wroteOf}
 use Rattle.memory.specs.Memory.{isLast, foundBy}
 use Rattle.memory.specs.Walk.{Delivery, Answer}
 use Rattle.delivery.specs.declared.numbered.Numbered.{Numbered}
@@ -115,14 +115,15 @@ pub record Shown : Type 0 where
   pub four : List ℤ
   -- the tenth under the plain law: code and u
   pub law : ℕ × ℤ
-  -- the ninth and the tenth as a replay, into a list of three
-  pub written : List ℤ
+  -- the ninth and the tenth as a list of samples under the plain law and as a replay, into a list of three
+  pub played : List ℤ
+  pub replayed : List ℤ
 
 -- the record after the first n of them
 abbrev recordAfter : Settings → List (Delivery Command) → ℕ → Numbered
 recordAfter s ds n = after handedBack (madeOf s .state) (take n ds)
 
--- ds is the list as it is delivered, temperature what becomes of a temperature, blank what stands in the replay's list before
+-- ds is the list as it is delivered, temperature what becomes of a temperature, blank what stands in the lists before
 abbrev shownOf : Settings → List (Delivery Command) → (ℤ → ℤ) → ℤ → Shown
 shownOf s ds temperature blank =
     let at = recordAfter s ds in
@@ -135,7 +136,8 @@ shownOf s ds temperature blank =
       answers = each handedBack answered (madeOf s .state) ds;
       four = end .u ∷ end .integral ∷ end .w ∷ end .y ∷ [];
       law = (tenth .code, tenth .state .u);
-      written = writtenOf (at 8) 9 (zero ∷ three ∷ []) (blank ∷ blank ∷ blank ∷ []);
+      played = wroteOf (at 8 .state) (zero ∷ three ∷ []) (blank ∷ blank ∷ blank ∷ []);
+      replayed = writtenOf (at 8) 9 (zero ∷ three ∷ []) (blank ∷ blank ∷ blank ∷ []);
     }
 
 abbrev imageShown : Mirror → Shown
@@ -159,7 +161,8 @@ pub mirrored :
       answers = answersWith (pos 1000) (pos 999);
       four = pos 999 ∷ fine 750 0 ∷ pos 500 ∷ fine 3 0 ∷ [];
       law = (0, pos 999);
-      written = pos 1000 ∷ pos 999 ∷ pos 7 ∷ [];
+      played = pos 1000 ∷ pos 999 ∷ pos 7 ∷ [];
+      replayed = pos 1000 ∷ pos 999 ∷ pos 7 ∷ [];
     })
     × (imageShown ofAction
     ≡ record {
@@ -167,7 +170,8 @@ pub mirrored :
       answers = answersWith (negℤ (pos 1000)) (negℤ (pos 999));
       four = negℤ (pos 999) ∷ negℤ (fine 750 0) ∷ pos 500 ∷ fine 3 0 ∷ [];
       law = (0, negℤ (pos 999));
-      written = negℤ (pos 1000) ∷ negℤ (pos 999) ∷ negℤ (pos 7) ∷ [];
+      played = negℤ (pos 1000) ∷ negℤ (pos 999) ∷ negℤ (pos 7) ∷ [];
+      replayed = negℤ (pos 1000) ∷ negℤ (pos 999) ∷ negℤ (pos 7) ∷ [];
     })
     × (imageShown ofTemperatures
     ≡ record {
@@ -175,9 +179,10 @@ pub mirrored :
       answers = answersWith (negℤ (pos 1000)) (negℤ (pos 999));
       four = negℤ (pos 999) ∷ negℤ (fine 750 0) ∷ negℤ (pos 500) ∷ negℤ (fine 3 0) ∷ [];
       law = (0, negℤ (pos 999));
-      written = negℤ (pos 1000) ∷ negℤ (pos 999) ∷ negℤ (pos 7) ∷ [];
+      played = negℤ (pos 1000) ∷ negℤ (pos 999) ∷ negℤ (pos 7) ∷ [];
+      replayed = negℤ (pos 1000) ∷ negℤ (pos 999) ∷ negℤ (pos 7) ∷ [];
     })
-unfolding Loop·madeOf rounded rows inTable valid lesser greater limited ramped filtered derivative sensedOf clamped backCalculated integrated actedOf sampleOf stepOf refusalOf lawOf isLast foundBy servedOf deliveredOf after each firstBad numbered replayRefusal writtenOf
+unfolding Loop·madeOf rounded rows inTable valid lesser greater limited ramped filtered derivative sensedOf clamped backCalculated integrated actedOf sampleOf stepOf refusalOf lawOf isLast foundBy servedOf deliveredOf after each firstBad playRefusal wroteOf numbered replayRefusal writtenOf
 mirrored = (refl, refl, refl)
 
 -- ---- "no value being the least of its type"
