@@ -81,7 +81,7 @@ fn lively_settings(rng: &mut Rng) -> Settings {
     settings_within(rng, [lo, hi], 100_000, 5_000, lively_gains)
 }
 
-/// Settings of these limits, with sp so far from 0 and a rate up to this one at most.
+/// Settings of these limits, with sp within ± so much and a rate up to this one.
 fn settings_within(
     rng: &mut Rng,
     [lo, hi]: [i32; 2],

@@ -66,30 +66,6 @@ fn deliveries(rng: &mut Rng, settings: &Settings) -> Vec<Delivery> {
     }
 }
 
-/// "same codes, same numbers, outputs [..] with the other sign"
-#[test]
-fn mirrored_deliveries_get_mirrored_answers_from_journal() {
-    let program = Program::new("journal");
-    for mirror in Mirror::BOTH {
-        let (mut answered, mut halves) = (0, Halves::default());
-        for_each_seed(200, |rng| {
-            let settings = gen::settings(rng);
-            let drawn = deliveries(rng, &settings).into_iter();
-            let pairs = drawn.filter_map(|next| Some((next, mirror.delivery(&next)?)));
-            let (list, others): (Vec<Delivery>, Vec<Delivery>) = pairs.unzip();
-            let spoiled = gen::spoiled_deliveries_file;
-            let files = files(rng, [&list, &others], gen::deliveries_file, spoiled);
-            let both = [&settings, &mirror.settings(&settings)];
-            let count = outputs_mirror(&program, both, files, |line| mirror.journal_line(line));
-            answered += count;
-            halves.add_list(&settings, &list[..count]);
-        });
-        println!("journal, {mirror:?}: {answered} deliveries, {halves:?}");
-        assert!(answered >= 10_000, "{answered} deliveries");
-        assert!(halves.fewest() > 0, "{halves:?}");
-    }
-}
-
 /// Samples for these settings, now and then with one out of range among them.
 fn samples(rng: &mut Rng, settings: &Settings) -> Vec<i32> {
     let mut samples = gen::samples(rng, settings, 300);
@@ -100,27 +76,61 @@ fn samples(rng: &mut Rng, settings: &Settings) -> Vec<i32> {
     samples
 }
 
-/// "every output [..] change[s] sign"
-#[test]
-fn mirrored_samples_get_mirrored_outputs_from_oven() {
-    let program = Program::new("oven");
+/// A mirrored pair of files, and what is delivered for the first of them: so many deliveries that
+/// get no line, then one for each line.
+struct Pair {
+    files: [Vec<u8>; 2],
+    silent: usize,
+    delivered: Vec<Delivery>,
+}
+
+/// Draws pairs of files and runs the program on them, in both mirrors.
+fn pairs_mirror(
+    name: &str,
+    draw: impl Fn(Mirror, &mut Rng, &Settings) -> Pair,
+    answer: impl Fn(Mirror, &str) -> Option<String>,
+) {
+    let program = Program::new(name);
     for mirror in Mirror::BOTH {
         let (mut answered, mut halves) = (0, Halves::default());
         for_each_seed(200, |rng| {
             let settings = gen::settings(rng);
-            let list = samples(rng, &settings);
-            let others = mirror.samples(&list);
-            let spoiled = gen::spoiled_sample_file;
-            let files = files(rng, [&list, &others], gen::sample_file, spoiled);
+            let pair = draw(mirror, rng, &settings);
             let both = [&settings, &mirror.settings(&settings)];
-            let count = outputs_mirror(&program, both, files, oven_line);
+            let count = outputs_mirror(&program, both, pair.files, |line| answer(mirror, line));
             answered += count;
-            halves.add_list(&settings, &gen::sample_deliveries(&list[..count]));
+            halves.add_list(&settings, &pair.delivered[..pair.silent + count]);
         });
-        println!("oven, {mirror:?}: {answered} samples, {halves:?}");
-        assert!(answered >= 10_000, "{answered} samples");
+        println!("{name}, {mirror:?}: {answered} answers, {halves:?}");
+        assert!(answered >= 10_000, "{answered} answers");
         assert!(halves.fewest() > 0, "{halves:?}");
     }
+}
+
+/// "same codes, same numbers, outputs [..] with the other sign"
+#[test]
+fn mirrored_deliveries_get_mirrored_answers_from_journal() {
+    let draw = |mirror: Mirror, rng: &mut Rng, settings: &Settings| {
+        let drawn = deliveries(rng, settings).into_iter();
+        let pairs = drawn.filter_map(|next| Some((next, mirror.delivery(&next)?)));
+        let (delivered, others): (Vec<Delivery>, Vec<Delivery>) = pairs.unzip();
+        let lists = [&delivered[..], &others];
+        let files = files(rng, lists, gen::deliveries_file, gen::spoiled_deliveries_file);
+        Pair { files, silent: 0, delivered }
+    };
+    pairs_mirror("journal", draw, |mirror, line| mirror.journal_line(line));
+}
+
+/// "every output [..] change[s] sign"
+#[test]
+fn mirrored_samples_get_mirrored_outputs_from_oven() {
+    let draw = |mirror: Mirror, rng: &mut Rng, settings: &Settings| {
+        let list = samples(rng, settings);
+        let lists = [&list[..], &mirror.samples(&list)];
+        let files = files(rng, lists, gen::sample_file, gen::spoiled_sample_file);
+        Pair { files, silent: 1, delivered: gen::sample_deliveries(&list) }
+    };
+    pairs_mirror("oven", draw, |_, line| oven_line(line));
 }
 
 /// Halves of either sign at each place that 01 rounds, in ovens whose outputs are worked out by

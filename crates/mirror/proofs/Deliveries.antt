@@ -29,11 +29,11 @@ use Rattle.mirror.proofs.Loops.{valid-mirror, refusal-mirror, step-mirr
 
 -- ---- the same command
 
--- two commands are the same exactly where their mirror images are
 same-there : (k : Mirror) (a b : Command) → same a b ≡ true → same (flipCommand k a) (flipCommand k b) ≡ true
 same-there k a b e =
     subst (λ (c : Command). same (flipCommand k a) (flipCommand k c) ≡ true) (same-equal a b e) (same-self (flipCommand k a))
 
+-- two commands are the same exactly where their mirror images are
 same-mirror : (k : Mirror) (a b : Command) → same (flipCommand k a) (flipCommand k b) ≡ same a b
 same-mirror k a b =
     by-test (same a b)

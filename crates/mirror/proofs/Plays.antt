@@ -35,9 +35,8 @@ filled-mirror us out = rw (length-map us negℤ, map-drop negℤ, ← map-join n
 
 -- ---- good samples, from a loop that keeps its rules
 
-module _ (k : Mirror) (l : Loop) (pv : ℤ) (v : valid l ≡ true) where
-  sampled-mirror : sampled (flipLoop k l) (flipTemperature k pv) ≡ flipLoop k (sampled l pv)
-  sampled-mirror = step-mirror k l (holds-of l v) (Sample pv)
+sampled-mirror : (k : Mirror) (l : Loop) (pv : ℤ) → valid l ≡ true → sampled (flipLoop k l) (flipTemperature k pv) ≡ flipLoop k (sampled l pv)
+sampled-mirror k l pv v = step-mirror k l (holds-of l v) (Sample pv)
 
 after-mirror : (k : Mirror) (l : Loop) (pvs : List ℤ) → valid l ≡ true → firstBad pvs ≡ length pvs →
     afterSamples (flipLoop k l) (map (flipTemperature k) pvs) ≡ flipLoop k (afterSamples l pvs)

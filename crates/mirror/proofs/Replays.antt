@@ -8,9 +8,9 @@ use lib.ListN.{length, length-map}
 use Rattle.whole.proofs.Truth.{push}
 use Rattle.command.specs.declared.Command.{Command}
 use Rattle.command.specs.declared.Command.the-variants.{Sample}
+use Rattle.command.specs.Sequence.{each}
 use Rattle.memory.specs.Walk.{Delivery, Answer}
 use Rattle.delivery.specs.declared.numbered.Numbered.{Numbered}
-use Rattle.command.specs.Sequence.{each}
 use Rattle.delivery.specs.Demand3.{answered, handedBack}
 use Rattle.delivery.specs.Replay.{numbered, deliveredOutputs, replayRefusal, replayedOf, writtenOf}
 use Rattle.mirror.specs.Mirror.{Mirror, flipTemperature, flipNumbered, flipDelivery, flipAnswer, flipReplayed}

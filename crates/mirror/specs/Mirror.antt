@@ -1,4 +1,4 @@
--- 02, request 3: mirrored loops. What each mirror makes of a number, of a record and of a list is written here once.
+-- 02, request 3: mirrored loops. What each mirror makes of a number, of a command, of a record and of an answer.
 use mathlib.Core.Path.{_≡_}
 use lib.IntN.{ℤ, pos, negsuc, negℤ, _-ℤ_}
 use mir.Syntax.{w32}

@@ -44,13 +44,13 @@ share-low d a h g e = nearest-share-low d a 65536 (lit< tt) h g e
 -- ---- the machine's form
 
 -- the shift by 63 is 0 or, below zero, -1
-record Sign (x s : ℤ) : Type 0 where
+record SignBit (x s : ℤ) : Type 0 where
   low : negsuc 0 ≤ℤ s
   high : s ≤ℤ pos 0
   up : pos 0 ≤ℤ x → pos 0 ≤ℤ s
   down : x <ℤ pos 0 → s ≤ℤ negsuc 0
 
-sign-bit : (x : ℤ) → Within product x → Sign x (shrZ x 9223372036854775808)
+sign-bit : (x : ℤ) → Within product x → SignBit x (shrZ x 9223372036854775808)
 sign-bit (pos a) h =
     let e = div-eq-of-lt {n = a} {m = 9223372036854775808} (omega arith) in
     record { low = omega (arith, zs); high = omega (arith, zs); up = λ _. omega (arith, zs); down = λ d. absurd (omega (arith, zs)) }
@@ -59,7 +59,7 @@ sign-bit (negsuc a) h =
     record { low = omega (arith, zs); high = omega (arith, zs); up = λ d. absurd (omega (arith, zs)); down = λ _. omega (arith, zs) }
 
 -- and the shift by 16 rounds down
-floored : (x s : ℤ) → Sign x s → shrZ (x +ℤ pos 32768 +ℤ s) 65536 ≡ rounded x
+floored : (x s : ℤ) → SignBit x s → shrZ (x +ℤ pos 32768 +ℤ s) 65536 ≡ rounded x
 unfolding rounded
 floored x s b =
     let z = x +ℤ pos 32768 +ℤ s in

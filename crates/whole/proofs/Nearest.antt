@@ -20,6 +20,7 @@ in-order p q n h =
     let k : p < suc q = lt-of-mul-lt-mul-right n {m = p} {n = suc q} (omega arith) in
     omega arith
 
+-- n is twice its half, or one more
 half-is : (n : ℕ) → (2 * half n ≤ n) × (n ≤ 2 * half n + 1)
 half-is n = let e = div-add-mod' n 2 in let h = mod-lt n {m = 2} (lit< tt) in omega arith
 
