@@ -70,6 +70,19 @@ fn a_journal_number_keeps_within_its_32_bits() {
 }
 
 #[test]
+fn more_digits_than_any_number_has_are_none() {
+    for length in (11..=30).chain([100_000]) {
+        for digit in ["0", "1", "9"] {
+            let word = digit.repeat(length);
+            assert_eq!(setting(word.as_bytes()), None, "{length} times {digit}");
+            assert_eq!(signed(word.as_bytes()), None, "{length} times {digit}");
+            assert_eq!(unsigned(word.as_bytes()), None, "{length} times {digit}");
+            assert_eq!(signed(format!("-{word}").as_bytes()), None, "minus {length} times {digit}");
+        }
+    }
+}
+
+#[test]
 fn every_number_is_read_as_it_is_printed() {
     for_each_seed(20_000, |rng| {
         let number = (rng.bits() >> rng.below(64)) as i32;

@@ -2,7 +2,7 @@
 
 mod common;
 
-use common::{across_a_cut, for_each_seed, odd_lines, same, Program};
+use common::{across_a_cut, for_each_seed, odd_lines, same, words_of_digits, Program};
 use host::delivery::Delivery;
 use host::law::Command;
 use host::{example, gen, journal, text};
@@ -79,6 +79,20 @@ fn spoiled_deliveries_are_answered_alike() {
     });
     for line in gen::MALFORMED_DELIVERIES {
         journal_agrees(&program, example::C.as_bytes(), line);
+    }
+}
+
+#[test]
+fn words_of_any_length_are_answered_alike() {
+    let program = Program::new("journal");
+    for word in words_of_digits() {
+        for line in [
+            format!("number={word} command=hold value=0 second=0\n"),
+            format!("number=1 command=sample value={word} second=0\n"),
+            format!("number=1 command=target value=480 second={word}\n"),
+        ] {
+            journal_agrees(&program, example::C.as_bytes(), line.as_bytes());
+        }
     }
 }
 

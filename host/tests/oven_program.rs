@@ -2,7 +2,7 @@
 
 mod common;
 
-use common::{across_a_cut, for_each_seed, odd_lines, same, Program};
+use common::{across_a_cut, for_each_seed, odd_lines, same, words_of_digits, Program};
 use host::rng::Rng;
 use host::{example, gen, oven, text};
 
@@ -76,6 +76,27 @@ fn a_line_across_a_cut_is_answered_alike() {
     across_a_cut(&lines, filler, b"481\n479\n", |file| {
         oven_agrees(&program, example::C.as_bytes(), file);
     });
+}
+
+#[test]
+fn words_of_any_length_are_answered_alike() {
+    let program = Program::new("oven");
+    for word in words_of_digits() {
+        let samples = format!("480\n{word}\n480\n");
+        oven_agrees(&program, example::C.as_bytes(), samples.as_bytes());
+        let settings = example::C.replace("hi=1000", &format!("hi={word}"));
+        oven_agrees(&program, settings.as_bytes(), b"480\n");
+    }
+}
+
+#[test]
+fn a_hundred_thousand_digits_are_14() {
+    let program = Program::new("oven");
+    let word = "9".repeat(100_000);
+    let settings = example::C.replace("hi=1000", &format!("hi={word}"));
+    assert_eq!(program.run(settings.as_bytes(), b"480\n"), b"refused 14 3\n");
+    let samples = format!("480\n{word}\n480\n");
+    assert_eq!(program.run(example::C.as_bytes(), samples.as_bytes()), b"100\nrefused 14 2\n");
 }
 
 #[test]

@@ -6,6 +6,7 @@ use libc::STDOUT_FILENO;
 use settings::Settings;
 use word::decimal::Decimal;
 use word::decimal::Shown;
+use word::number;
 
 // ---- texts that are put together
 
@@ -418,10 +419,9 @@ fn trips() {
 
 // ---- one decimal
 
-// The word, and the number that it is read as, or wrong.
-fn decimal(word: &[u8]) {
-    io::write_all(STDOUT_FILENO, word);
-    let d = Decimal::of(word);
+// What a word is called, and the number that it is read as, or wrong.
+fn tell(name: &[u8], d: Decimal) {
+    io::write_all(STDOUT_FILENO, name);
     match d {
         Decimal::Wrong => {
             io::write_all(STDOUT_FILENO, b" is wrong\n");
@@ -431,6 +431,10 @@ fn decimal(word: &[u8]) {
             show(x);
         }
     }
+}
+
+fn decimal(word: &[u8]) {
+    tell(word, Decimal::of(word));
 }
 
 fn show(x: i32) {
@@ -458,6 +462,13 @@ fn decimals() {
     show(-2147483648);
 }
 
+// A word of any length is answered.
+fn long_words() {
+    let nines = [b'9'; 100_000];
+    tell(b"100000-nines", Decimal::of(&nines));
+    tell(b"100000-nines-in-a-journal", number::signed(&nines));
+}
+
 fn main() {
     early();
     forms();
@@ -469,4 +480,5 @@ fn main() {
     wrongs();
     trips();
     decimals();
+    long_words();
 }

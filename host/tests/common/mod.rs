@@ -101,6 +101,13 @@ pub fn odd_lines() -> Vec<Vec<u8>> {
     [0, 80, 81].iter().flat_map(|&count| [ones(count, "\n"), ones(count, "")]).collect()
 }
 
+/// Words of digits alone, from one to more than any number has and on to a hundred thousand, with and without a minus.
+pub fn words_of_digits() -> Vec<String> {
+    let lengths = (1..=30).chain([100_000]);
+    let word = |length| ["0", "1", "9"].map(|digit: &str| digit.repeat(length));
+    lengths.flat_map(word).flat_map(|word| [format!("-{word}"), word]).collect()
+}
+
 impl Drop for Program {
     fn drop(&mut self) {
         let _ = std::fs::remove_dir_all(&self.folder);
