@@ -1,22 +1,23 @@
 -- Laws of the tests of a decimal's form.
 use Prim.Native.Nat.{ℕ, zero, suc, _+_, _-_, _*_, _^_, _<_, _≤_}
 use mathlib.Core.Path.{_≡_, sym, ap, _∙_}
-use mathlib.Core.Bool.{true, false, not, _&&_}
+use mathlib.Core.Bool.{true, false, cond, not, _&&_}
 use mathlib.Core.List.{List, [], _∷_}
 use native.Mathlib.Nat.{zero-add, add-zero, pow-suc, pow-le-pow-right}
 use native.Mathlib.Numerals.{add-one}
 use native.Mathlib.Omega.{arith}
 use borrow.Author.Tests.{le-leb, lt-leb, le-ltb, leb-true, not-true}
 use lib.Dec.{eqb, leb, lit<}
-use lib.ListN.{length, getD, drop}
+use lib.ListN.{length}
 use lib.IntN.{pos, negℤ, _-ℤ_, +ℤ-idl}
 use mir.Syntax.{w32, w64}
 use mir.Val.{SFits, toZ}
 use mir.Facts.{toZ-pos}
-use Rattle.whole.proofs.Truth.{both, and, never, by-test}
-use Rattle.whole.proofs.Lists.{next}
+use Rattle.whole.proofs.Truth.{both, and, and-comm, never, push, by-test}
 use Rattle.word.specs.Decimal.{isDigit, allDigits, mostDigits, longDigits, leadingZero, isSize, hasMinus, unsigned, sizeFrom, sizeOf, isDecimal, numberOf, decimalOf, lowest, signedOf}
 use Rattle.word.specs.declared.decimal.Decimal.the-variants.{Wrong}
+use Rattle.word.specs.declared.decimal.Size.{Size}
+use Rattle.word.specs.declared.decimal.Size.the-variants as size
 
 -- a word with a minus is not empty
 pub minus-there : (w : List ℕ) → hasMinus w ≡ true → 0 < length w
@@ -32,13 +33,6 @@ pub digit : (b : ℕ) → isDigit b ≡ true → Digit b
 digit b e =
     let h = both (leb 48 b) (leb b 57) e in
     record { low = leb-true 48 b (h .0); high = leb-true b 57 (h .1) }
-
--- one more of the digits that are left
-pub digit-next : (w : List ℕ) (i : ℕ) → i < length w → allDigits (drop i w) ≡ true →
-    Digit (getD w i 0) × (allDigits (drop (i + 1) w) ≡ true)
-digit-next w i h e =
-    let b = both (isDigit (getD w i 0)) (allDigits (drop (i + 1) w)) (sym (ap allDigits (next w i 0 h)) ∙ e) in
-    (digit (getD w i 0) (b .0), b .1)
 
 pub record Sized (most : ℕ) (w : List ℕ) : Type 0 where
   pub some : 1 ≤ length w
@@ -63,11 +57,25 @@ pub is-sized : (most : ℕ) (w : List ℕ) → Sized most w → isSize most w �
 unfolding isSize
 is-sized most w s = and (and (le-leb 1 (length w) (s .some)) (le-leb (length w) most (s .few))) (and (s .all) (ap not (s .lead)))
 
--- digits that are few enough for less are few enough for more
-pub longer : {most more : ℕ} (w : List ℕ) → most ≤ more → isSize most w ≡ true → isSize more w ≡ true
-longer {most} {more} w h e =
-    let s = sized most w e in
-    is-sized more w (record { some = s .some; few = omega arith; all = s .all; lead = s .lead })
+-- a word with a fault is none, and one without any other is one exactly when all are digits
+pub unsized : (most : ℕ) (w : List ℕ) → (Sized most w → ⊥) → isSize most w ≡ false
+unsized most w fault = by-test (isSize most w) (λ e. absurd (fault (sized most w e))) (λ e. e)
+
+pub size-if-digits : (most : ℕ) (w : List ℕ) → 1 ≤ length w → length w ≤ most → leadingZero w ≡ false → isSize most w ≡ allDigits w
+unfolding isSize
+size-if-digits most w s f l = rw (le-leb 1 (length w) s, le-leb (length w) most f, l) (and-comm (allDigits w) true)
+
+-- what digits are, and what is made of them by that
+abbrev pub sizeIn : ℕ → List ℕ → Size
+sizeIn most w = cond (isSize most w) (size.Is (sizeOf w)) size.Wrong
+
+abbrev pub made : {A : Type 0} → (ℕ → A) → A → Size → A
+made f none (size.Is n) = f n
+made f none size.Wrong = none
+
+pub made-of : {A : Type 0} (f : ℕ → A) (none : A) (most : ℕ) (w : List ℕ) {s : Size} → s ≡ sizeIn most w →
+    cond (isSize most w) (f (sizeOf w)) none ≡ made f none s
+made-of f none most w e = push (made f none) (isSize most w) (size.Is (sizeOf w)) size.Wrong ∙ sym (ap (made f none) e)
 
 -- ---- how large a number k digits can make
 

@@ -1,10 +1,11 @@
 // One decimal, as the settings and the sample file have it: "an optional minus and 1 to 7 digits, no leading zero except
 // the number 0 itself, no minus zero".
 ghost use mathlib.Core.Path.{_≡_};
-ghost use mathlib.Core.Bool.{true};
+ghost use mathlib.Core.Bool.{cond};
 ghost use Prim.Native.Nat.{_<_, _≤_};
 ghost use lib.IntN.{pos, negℤ, natAbs};
-ghost use Rattle.word.specs.Decimal.{isDigit, allDigits, longDigits, isSize, hasMinus, unsigned, sizeOf, lowest, signedOf, decimalOf, shown, decimal, padded};
+ghost use Rattle.word.specs.declared.decimal.Size.the-variants.{Is, Wrong};
+ghost use Rattle.word.specs.Decimal.{longDigits, isSize, hasMinus, unsigned, sizeOf, lowest, signedOf, decimalOf, shown, decimal, padded};
 
 // What a word is: the number that it stands for, or no decimal.
 pub enum Decimal {
@@ -12,49 +13,41 @@ pub enum Decimal {
     Wrong,
 }
 
-fn is_digit(b: u8) -> bool
-    ensures { λ r. ⌜ r ≡ isDigit b ⌝ }
-{
-    (b'0' <= b) & (b <= b'9')
+// What digits are: the number that they make, or no number.
+pub(crate) enum Size {
+    Is(u64),
+    Wrong,
 }
 
-fn all_digits(word: &[u8]) -> bool
-    ensures { λ r. ⌜ r ≡ allDigits (now (word .entry)) ⌝ }
+// What 1 to so many digits are, "no leading zero except the number 0 itself", in one pass. Their count is tested before it, so that
+// a word of any length is answered and the number never leaves its type.
+pub(crate) fn size_of(word: &[u8], most: usize) -> Size
+    requires { ⌜ most ≤ longDigits ⌝ }
+    ensures { λ r. ⌜ r ≡ cond (isSize most (now (word .entry))) (Is (sizeOf (now (word .entry)))) Wrong ⌝ }
 {
-    let mut i: usize = 0;
-    while i < word.len() {
-        if !is_digit(word[i]) {
-            return false;
-        }
-        i += 1;
+    let length = word.len();
+    if length < 1 {
+        return Size::Wrong;
     }
-    true
-}
-
-// 1 to so many digits, "no leading zero except the number 0 itself".
-pub(crate) fn is_size(word: &[u8], most: usize) -> bool
-    ensures { λ r. ⌜ r ≡ isSize most (now (word .entry)) ⌝ }
-{
-    let n = word.len();
-    if n < 1 {
-        return false;
+    if most < length {
+        return Size::Wrong;
     }
-    let leading_zero = (word[0] == b'0') & (1 < n);
-    (n <= most) & (all_digits(word) & !leading_zero)
-}
-
-// The number that digits make.
-pub(crate) fn size(word: &[u8]) -> u64
-    requires { ⌜ isSize longDigits (now word) ≡ true ⌝ }
-    ensures { λ r. ⌜ r ≡ sizeOf (now (word .entry)) ⌝ }
-{
+    let leading_zero = (word[0] == b'0') & (1 < length);
+    if leading_zero {
+        return Size::Wrong;
+    }
     let mut n: u64 = 0;
     let mut i: usize = 0;
-    while i < word.len() {
-        n = n * 10 + (word[i] - b'0') as u64;
+    while i < length {
+        let b = word[i];
+        let digit = (b'0' <= b) & (b <= b'9');
+        if !digit {
+            return Size::Wrong;
+        }
+        n = n * 10 + (b - b'0') as u64;
         i += 1;
     }
-    n
+    Size::Is(n)
 }
 
 fn has_minus(word: &[u8]) -> bool
@@ -88,11 +81,9 @@ pub(crate) fn signed_of(word: &[u8], most: usize) -> Decimal
     requires { ⌜ most ≤ longDigits ⌝ }
     ensures { λ r. ⌜ r ≡ signedOf most (now (word .entry)) ⌝ }
 {
-    let digits = unsigned(word);
-    if !is_size(digits, most) {
+    let Size::Is(n) = size_of(unsigned(word), most) else {
         return Decimal::Wrong;
-    }
-    let n = size(digits);
+    };
     if has_minus(word) {
         if n == 0 {
             return Decimal::Wrong;

@@ -2,9 +2,9 @@
 ghost use mathlib.Core.Path.{_≡_};
 ghost use Rattle.word.specs.Number.{numberIn, signedIn};
 use crate::decimal::Decimal;
-use crate::decimal::is_size;
+use crate::decimal::Size;
 use crate::decimal::signed_of;
-use crate::decimal::size;
+use crate::decimal::size_of;
 
 // What a word is: the number without a sign that it stands for, or no such number.
 pub enum Number {
@@ -22,10 +22,9 @@ impl Number {
     pub fn of(word: &[u8]) -> Number
         ensures { λ r. ⌜ r ≡ numberIn (now (word .entry)) ⌝ }
     {
-        if !is_size(word, Number::DIGITS) {
+        let Size::Is(n) = size_of(word, Number::DIGITS) else {
             return Number::Wrong;
-        }
-        let n = size(word);
+        };
         if Number::HIGHEST < n {
             return Number::Wrong;
         }

@@ -1,40 +1,49 @@
+use Prim.Native.Nat.{ℕ}
 use mathlib.Core.Path.{_≡_, sym, ap, _∙_}
-use mathlib.Core.Bool.{true}
-use borrow.Author.Tests.{not-true, not-false, lt-ltb, le-ltb}
+use mathlib.Core.Bool.{cond}
+use borrow.Author.Tests.{lt-ltb, le-ltb}
 use denote.Ref.{now}
 use lib.Dec.{ltb}
-use Rattle.whole.proofs.Truth.{so, cond-yes, cond-no}
-use Rattle.word.specs.declared.number.Number.the-variants.{Is}
-use Rattle.word.specs.Decimal.{longDigits, isSize}
+use Rattle.whole.proofs.Truth.{cond-yes, cond-no}
+use Rattle.word.specs.declared.number.Number.the-variants.{Is, Wrong}
+use Rattle.word.specs.Decimal.{longDigits}
 use Rattle.word.specs.Number.{highest, numberIn}
+use Rattle.word.proofs.Digits.{made, made-of}
 use borrow.Author.Needs.{needs}
 use Rattle.word.proofs.number.Number.of.Statement.{statement}
 use Rattle.word.proofs.number.Number.of.Tie as tie
 
-is-size-requires : tie.Need-is-size-requires
-is-size-requires c κs = search needs
+size-of-requires : tie.Need-size-of-requires
+size-of-requires c κs = search needs
+
+enum-known-n : tie.Need-enum-known-n
+enum-known-n c = search needs
+
+enum-told : tie.Need-enum-told
+enum-told c = search needs
+
+-- the answer, said of what the digits are
+told : (c : tie.After-size-of) → numberIn (now (c .before .before .args .word)) ≡ made (λ (n : ℕ). cond (ltb highest n) Wrong (Is n)) Wrong (c .size-of .result)
+unfolding numberIn
+told c = made-of _ Wrong longDigits (now (c .before .before .args .word)) (c .size-of .ensures)
 
 returns : tie.Need-returns
-unfolding numberIn
-returns c = sym (cond-no _ _ (so (c .before .is-size .ensures) (not-true (c .before .is-size .result) (c .if1 .taken))))
-
-form : (c : tie.Else1) → isSize longDigits (now (c .before .before .before .args .word)) ≡ true
-form c = so (c .before .is-size .ensures) (not-false (c .before .is-size .result) (c .if1 .left))
-
-size-requires : tie.Need-size-requires
-size-requires c κs = form c
+returns c = sym (told (c .before .before) ∙ ap (made _ Wrong) (c .enum-told .given .1))
 
 returns-2 : tie.Need-returns-2
-unfolding numberIn
-returns-2 c = sym (cond-yes _ _ (form (c .before .before)) ∙ cond-yes _ _ (so (ap (ltb highest) (c .before .size .ensures)) (lt-ltb _ _ (c .if2 .taken))))
+returns-2 c =
+    let s = c .before .before in
+    sym (told (s .before .before) ∙ ap (made _ Wrong) (s .n .given .1) ∙ cond-yes _ _ (lt-ltb _ _ (c .if1 .taken)))
 
 cast-t5 : tie.Need-cast-t5
 cast-t5 c = search needs
 
 returns-3 : tie.Need-returns-3
-unfolding numberIn
-returns-3 c = ap Is (c .before .size .ensures) ∙ sym (cond-yes _ _ (form (c .before .before)) ∙ cond-no _ _ (so (ap (ltb highest) (c .before .size .ensures)) (le-ltb _ _ (c .if2 .left))))
+returns-3 c =
+    let s = c .before .before in
+    sym (told (s .before .before) ∙ ap (made _ Wrong) (s .n .given .1) ∙ cond-no _ _ (le-ltb _ _ (c .if1 .left)))
 
 pub of-spec : {M : Type 1} → statement M
 of-spec =
-    tie.close (tie.spec is-size-requires returns size-requires returns-2 cast-t5 returns-3)
+    tie.close
+    (tie.spec size-of-requires enum-known-n enum-told returns returns-2 cast-t5 returns-3)
