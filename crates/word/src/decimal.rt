@@ -19,8 +19,8 @@ pub(crate) enum Size {
     Wrong,
 }
 
-// What 1 to so many digits are, "no leading zero except the number 0 itself", in one pass. Their count is tested before it, so that
-// a word of any length is answered and the number never leaves its type.
+// What 1 to so many digits are, "no leading zero except the number 0 itself", in one pass. Their count is tested before it:
+// a word of any length is answered, and the number never leaves its type.
 pub(crate) fn size_of(word: &[u8], most: usize) -> Size
     requires { ⌜ most ≤ longDigits ⌝ }
     ensures { λ r. ⌜ r ≡ cond (isSize most (now (word .entry))) (Is (sizeOf (now (word .entry)))) Wrong ⌝ }
