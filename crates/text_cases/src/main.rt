@@ -1,5 +1,5 @@
-// Runs the reader, the writer and one decimal on cases whose answers 01 fixes. Each case writes a line: its name, the code,
-// then the reader's line or the writer's length. The file stdout has what 01 says.
+// Runs the reader, the writer and one decimal on cases whose answers the papers fix. Each case writes a line: its name, the code,
+// then the reader's line or the writer's length. The file stdout has what the papers say.
 ghost use Prim.Native.Nat.{_≤_};
 ghost use lib.ListN.{length};
 use libc::STDOUT_FILENO;
