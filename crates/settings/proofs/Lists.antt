@@ -1,10 +1,13 @@
--- Laws of lists by place: blocks, and numbers that count up.
+-- Laws of lists by place: blocks, numbers that count up, and a test that every element passes.
 use Prim.Native.Nat.{ℕ, zero, suc, _+_, _*_, _<_}
-use mathlib.Core.Path.{_≡_, _∙_}
-use mathlib.Core.List.{List, [], _∷_}
+use mathlib.Core.Path.{_≡_, refl, sym, ap, _∙_}
+use mathlib.Core.Bool.{Bool, true, _&&_}
+use mathlib.Core.List.{List, [], _∷_, _++_, append-assoc}
+use native.Mathlib.Nat.{add-zero, zero-add}
 use native.Mathlib.Omega.{arith}
 use lib.ListN.{length, getD, length-append, List·getD-append}
 use lib.Seq.{getD-append-add}
+use Rattle.whole.proofs.Truth.{both}
 use Rattle.settings.specs.Table.{each, numbersFrom}
 
 -- element j of block k is at place n k + j, where each block has n
@@ -22,7 +25,35 @@ pub each-long : {A B : Type 0} (n : ℕ) (f : B → List A) (bs : List B) → ((
 each-long n f [] q = omega arith
 each-long n f (b ∷ bs) q = let h = each-long n f bs q in simp length-append (omega (arith, q b))
 
+pub each-append : {A B : Type 0} (f : B → List A) (xs ys : List B) → each f (xs ++ ys) ≡ each f xs ++ each f ys
+each-append f [] ys = refl
+each-append f (x ∷ xs) ys =
+    ap (λ (zs : List _). f x ++ zs) (each-append f xs ys) ∙ sym (append-assoc (f x) (each f xs) (each f ys))
+
+pub numbers-long : (k n : ℕ) → length (numbersFrom k n) ≡ n
+numbers-long k zero = refl
+numbers-long k (suc n) = ap suc (numbers-long (k + 1) n)
+
+pub numbers-append : (k m n : ℕ) → numbersFrom k (m + n) ≡ numbersFrom k m ++ numbersFrom (k + m) n
+numbers-append k zero n = rw (zero-add n, add-zero k)
+numbers-append k (suc m) n =
+    let e : suc m + n ≡ suc (m + n) = omega arith in
+    let d : k + 1 + m ≡ k + suc m = omega arith in
+    rw e (ap (λ (ks : List ℕ). k ∷ ks) (numbers-append (k + 1) m n ∙ ap (λ (j : ℕ). numbersFrom (k + 1) m ++ numbersFrom j n) d))
+
 pub numbers-at : (k n j : ℕ) → j < n → getD (numbersFrom k n) j 0 ≡ k + j
 numbers-at k zero j h = absurd (omega arith)
 numbers-at k (suc n) zero h = omega arith
 numbers-at k (suc n) (suc j) h = numbers-at (k + 1) n j (omega arith) ∙ omega arith
+
+-- ---- a test of every element
+
+abbrev pub all : {A : Type 0} → (A → Bool) → List A → Bool
+all f [] = true
+all f (x ∷ xs) = f x && all f xs
+
+-- what stands past the end passes it too
+pub all-at : {A : Type 0} (f : A → Bool) (d : A) (xs : List A) → all f xs ≡ true → f d ≡ true → (i : ℕ) → f (getD xs i d) ≡ true
+all-at f d [] e n i = n
+all-at f d (x ∷ xs) e n zero = both (f x) (all f xs) e .0
+all-at f d (x ∷ xs) e n (suc i) = all-at f d xs (both (f x) (all f xs) e .1) n i

@@ -1,12 +1,12 @@
 -- The test whether settings lie within the table: its parts, and what it says of each value.
 use Prim.Native.Nat.{ℕ, zero, suc, _+_, _-_, _<_, _≤_}
-use mathlib.Core.Path.{_≡_, refl, _∙_}
+use mathlib.Core.Path.{_≡_, refl, sym, ap, ap₂, _∙_}
 use mathlib.Core.Bool.{Bool, true, false, _&&_}
 use mathlib.Core.List.{List, [], _∷_, _++_}
 use native.Mathlib.Omega.{arith}
 use lib.Dec.{lit<}
 use lib.IntN.{ℤ, pos, negsuc}
-use lib.ListN.{length, getD, drop}
+use lib.ListN.{length, getD, drop, replicate}
 use mir.Syntax.{w32}
 use mir.Val.{SFits, toZ, ofZ}
 use mir.Facts.{toZ-ofZ}
@@ -15,9 +15,11 @@ use Rattle.whole.proofs.Truth.{never, both}
 use Rattle.settings.specs.declared.Gains.{Gains}
 use Rattle.settings.specs.declared.Settings.{Settings}
 use Rattle.settings.specs.declared.table.Row.{Row}
-use Rattle.settings.specs.Table.{reach, fastest, gain, share, headRows, gainRows, table, sets, heads, keys, setRows, each, numbersFrom, rows, noRow, inRow}
-use Rattle.settings.specs.Settings.{noGains, gainsAt, gainValues, headValues, valuesOf, allIn, inTable}
+use Rattle.settings.specs.Table.{reach, fastest, gain, share, headRows, gainRows, table, sets, heads, keys, linesFor, setRows, each, numbersFrom, rowsOf, rows, noRow, inRow}
+use Rattle.settings.specs.Settings.{noGains, gainsAt, gainsFrom, setsFrom, gainValues, headValues, valuesOf, settingsOf, filled, allIn, inTable}
 use Rattle.whole.proofs.Lists.{next}
+use Rattle.settings.proofs.Rows.{rows-long, rows-split}
+use Rattle.settings.proofs.Values.{values-front, values-filled}
 
 -- ---- the test of one value after another
 
@@ -51,7 +53,7 @@ abbrev pub setsIn : List Gains → ℕ → Bool
 setsIn gs k = allIn (each setRows (numbersFrom k (sets - k))) (each gainValues (drop k gs))
 
 pub table-parts : (s : Settings) → inTable s ≡ (allIn headRows (headValues s) && setsIn (s .gains) 0)
-unfolding inTable rows
+unfolding inTable rowsOf
 table-parts s = all-append headRows (each setRows (numbersFrom 0 sets)) (headValues s) (each gainValues (s .gains)) refl
 
 pub table-sets : (s : Settings) → allIn headRows (headValues s) ≡ true → inTable s ≡ setsIn (s .gains) 0
@@ -66,6 +68,38 @@ sets-in-next gs k h e =
 
 pub sets-in-end : (gs : List Gains) (k : ℕ) → sets ≤ k → setsIn gs k ≡ true
 sets-in-end gs k h = let n : sets - k ≡ 0 = omega arith in rw n
+
+-- ---- the test of settings that are filled
+
+-- a gain set in the place of each of n
+again-in : (g : Gains) (k n : ℕ) → allIn gainRows (gainValues g) ≡ true → allIn (each setRows (numbersFrom k n)) (each gainValues (replicate n g)) ≡ true
+again-in g k zero e = refl
+again-in g k (suc n) e =
+    all-append (setRows k) (each setRows (numbersFrom (k + 1) n)) (gainValues g) (each gainValues (replicate n g)) refl
+    ∙ rw (e, again-in g (k + 1) n e)
+
+-- set 0, of values within the ranges of their rows
+first-in : (n : ℕ) (vs : List ℤ) → length vs ≡ linesFor (suc n) → allIn (rowsOf (suc n)) vs ≡ true → allIn gainRows (gainValues (gainsFrom heads vs)) ≡ true
+unfolding rowsOf
+first-in n vs h e =
+    let s = settingsOf vs in
+    let ks = each setRows (numbersFrom 1 n) in
+    let gs = each gainValues (setsFrom (heads + keys) n vs) in
+    let g = gainValues (gainsFrom heads vs) in
+    let v : allIn (rowsOf (suc n)) (headValues s ++ (g ++ gs)) ≡ true = ap (allIn (rowsOf (suc n))) (values-front (suc n) vs h) ∙ e in
+    let p = both (allIn headRows (headValues s)) (allIn (setRows 0 ++ ks) (g ++ gs)) (sym (all-append headRows (setRows 0 ++ ks) (headValues s) (g ++ gs) refl) ∙ v) in
+    both (allIn gainRows g) (allIn ks gs) (sym (all-append (setRows 0) ks g gs refl) ∙ p .1) .0
+
+pub filled-in : (n : ℕ) (vs : List ℤ) → 1 ≤ n → n ≤ sets → length vs ≡ linesFor n → allIn (rowsOf n) vs ≡ true → inTable (filled n (settingsOf vs)) ≡ true
+unfolding inTable
+filled-in zero vs l m h e = absurd (omega arith)
+filled-in (suc n) vs l m h e =
+    let g = gainsFrom heads vs in
+    let more = numbersFrom (suc n) (sets - suc n) in
+    let p : suc n + (sets - suc n) ≡ sets = omega arith in
+    ap₂ allIn (ap rowsOf (sym p) ∙ rows-split (suc n) (sets - suc n)) (values-filled (suc n) vs m h)
+    ∙ all-append (rowsOf (suc n)) (each setRows more) vs (each gainValues (replicate (sets - suc n) g)) (h ∙ sym (rows-long (suc n)))
+    ∙ rw (e, again-in g (suc n) (sets - suc n) (first-in n vs h e))
 
 -- ---- what the test says of each value
 
@@ -115,7 +149,7 @@ sets-in (g ∷ gs) (k ∷ ks) e zero h =
 sets-in (g ∷ gs) (k ∷ ks) e (suc j) h = sets-in gs ks (all-from keys (each setRows (k ∷ ks)) (each gainValues (g ∷ gs)) e) j (omega arith)
 
 pub settings-in : (s : Settings) → inTable s ≡ true → SettingsIn s
-unfolding inTable rows
+unfolding inTable rowsOf
 settings-in s e =
     let at = all-at rows (valuesOf s) e in
     record {

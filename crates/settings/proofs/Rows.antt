@@ -1,32 +1,46 @@
 -- The rows of the text's lines and the values of settings, by their places.
 use Prim.Native.Nat.{ℕ, zero, suc, _+_, _-_, _*_, _/_, _%_, _<_, _≤_}
 use mathlib.Core.Path.{_≡_, refl, sym, ap, _∙_}
-use mathlib.Core.List.{List, [], _∷_, _++_}
-use native.Mathlib.Nat.{zero-add}
-use native.Mathlib.Numerals.{add-one}
+use mathlib.Core.List.{List, [], _∷_, _++_, append-assoc}
+use native.Mathlib.Nat.{zero-add, add-assoc}
 use native.Mathlib.Omega.{arith}
+use borrow.Author.Tests.{leb-true}
+use lib.Dec.{leb}
 use lib.IntN.{ℤ, pos}
-use lib.ListN.{length, getD, set, List·getD-append, List·getD-map}
-use lib.Seq.{getD-append-add}
+use lib.ListN.{length, getD, length-append, List·getD-append, List·getD-map}
+use lib.Seq.{getD-append-add, sets as puts}
 use mir.Syntax.{w32}
 use mir.Val.{SFits, toZ, ofZ}
 use mir.Facts.{toZ-ofZ}
 use Rattle.settings.specs.declared.Gains.{Gains}
 use Rattle.settings.specs.declared.Settings.{Settings}
 use Rattle.settings.specs.declared.table.Row.{Row}
-use Rattle.settings.specs.Table.{longestKey, headRows, gainRows, table, sets, heads, keys, lines, numbered, setRows, each, numbersFrom, rows, noRow}
+use Rattle.settings.specs.Table.{longestKey, headRows, gainRows, table, sets, heads, keys, linesFor, lines, numbered, setRows, each, numbersFrom, rowsOf, rows, noRow}
 use Rattle.settings.specs.Settings.{noGains, gainsAt, gainsFrom, setsFrom, gainValues, headValues, valuesOf}
+use Rattle.whole.specs.Words.{bytes}
 use Rattle.whole.proofs.Lists.{getD-any}
-use Rattle.settings.proofs.Lists.{each-at, each-long, numbers-at}
+use Rattle.word.specs.Decimal.{shown}
+use Rattle.word.proofs.Stores.{sets-append}
+use Rattle.settings.proofs.Lists.{each-at, each-long, each-append, numbers-long, numbers-append, numbers-at, all-at}
 
 -- ---- rows
 
-pub rows-long : length rows ≡ lines
-unfolding rows
-rows-long = refl
+pub rows-long : (n : ℕ) → length (rowsOf n) ≡ linesFor n
+unfolding rowsOf
+rows-long n =
+    let h = each-long keys setRows (numbersFrom 0 n) (λ _. refl) in
+    simp length-append (omega (arith, h, numbers-long 0 n))
+
+-- the rows of the first gain sets, and those of the sets after them
+pub rows-split : (m n : ℕ) → rowsOf (m + n) ≡ rowsOf m ++ each setRows (numbersFrom m n)
+unfolding rowsOf
+rows-split m n =
+    ap (λ (ks : List ℕ). headRows ++ each setRows ks) (numbers-append 0 m n ∙ ap (λ (k : ℕ). numbersFrom 0 m ++ numbersFrom k n) (zero-add m))
+    ∙ ap (λ (rs : List Row). headRows ++ rs) (each-append setRows (numbersFrom 0 m) (numbersFrom m n))
+    ∙ sym (append-assoc headRows (each setRows (numbersFrom 0 m)) (each setRows (numbersFrom m n)))
 
 pub row-head : (i : ℕ) → i < heads → getD table i noRow ≡ getD rows i noRow
-unfolding table rows
+unfolding table rowsOf
 row-head i h =
     List·getD-append headRows gainRows noRow i h ∙ sym (List·getD-append headRows (each setRows (numbersFrom 0 sets)) noRow i h)
 
@@ -35,7 +49,7 @@ numbered-at k j h =
     sym (List·getD-map (λ r. numbered r k) gainRows j noRow) ∙ getD-any (setRows k) j (numbered noRow k) noRow h
 
 pub row-set : (i : ℕ) → heads ≤ i → i < lines → numbered (getD table (heads + (i - heads) % keys) noRow) ((i - heads) / keys) ≡ getD rows i noRow
-unfolding table rows
+unfolding table rowsOf
 row-set i l h =
     let k = (i - heads) / keys in
     let j = (i - heads) % keys in
@@ -47,23 +61,16 @@ row-set i l h =
     ∙ sym (getD-append-add headRows (each setRows (numbersFrom 0 sets)) (keys * k + j) noRow)
     ∙ ap (λ (n : ℕ). getD rows n noRow) e
 
--- the digit and the `=` put after the letters, byte by byte
-pub numbered-is : (r : Row) (k : ℕ) {a b : ℤ} → a ≡ r .2 → b ≡ r .3 →
-    record { 0 = set (set (r .0) (r .1) (48 + k)) (r .1 + 1) 61; 1 = r .1 + 2; 2 = a; 3 = b } ≡ numbered r k
-numbered-is r k e f = rw (e, f, add-one (r .1))
+-- the number of the set and the `=`, put after the letters one after the other
+pub numbered-is : (r : Row) (k n : ℕ) {k₁ k₂ : List ℕ} {a b : ℤ} → n ≡ length (shown k) →
+    k₁ ≡ puts (r .0) (r .1) (shown k) → k₂ ≡ puts k₁ (r .1 + n) (bytes "=") → a ≡ r .2 → b ≡ r .3 →
+    record { 0 = k₂; 1 = r .1 + n + 1; 2 = a; 3 = b } ≡ numbered r k
+numbered-is r k n e p q f g = rw (q, p, e, f, g, sets-append (r .0) (r .1) (shown k) (bytes "="), add-assoc (r .1) (length (shown k)) 1)
 
--- the letters of a gain set's key leave room for its digit and the `=`
-gains-short : (j : ℕ) → j < keys → getD gainRows j noRow .1 + 2 ≤ longestKey
-gains-short zero h = omega arith
-gains-short (suc zero) h = omega arith
-gains-short (suc (suc zero)) h = omega arith
-gains-short (suc (suc (suc zero))) h = omega arith
-gains-short (suc (suc (suc (suc zero)))) h = omega arith
-gains-short (suc (suc (suc (suc (suc j))))) h = absurd (omega arith)
-
-pub letters : (j : ℕ) → j < keys → getD table (heads + j) noRow .1 + 2 ≤ longestKey
-unfolding table
-letters j h = rw (getD-append-add headRows gainRows j noRow) (gains-short j h)
+-- a key of the table has at most so many bytes
+pub kind-short : (j : ℕ) → getD table j noRow .1 ≤ longestKey
+unfolding table noRow
+kind-short j = leb-true (getD table j noRow .1) longestKey (all-at (λ r. leb (r .1) longestKey) noRow table refl refl j)
 
 -- ---- values by place
 

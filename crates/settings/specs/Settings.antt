@@ -1,8 +1,8 @@
--- 01, "Units" and "Settings text": the settings as values in the order of the rows, and what is wrong with them.
-use Prim.Native.Nat.{ℕ, zero, suc, _+_}
+-- 01, "Units" and "Settings text", with 02's request 5: the settings as values in the order of the rows, and what is wrong with them.
+use Prim.Native.Nat.{ℕ, zero, suc, _+_, _-_}
 use mathlib.Core.Bool.{Bool, true, false, cond, _&&_}
 use mathlib.Core.List.{List, [], _∷_, _++_}
-use lib.ListN.{getD, replicate}
+use lib.ListN.{getD, take, replicate}
 use lib.IntN.{ℤ, pos}
 use lib.Signed.{ltZ}
 use Rattle.whole.specs.Numbers.{inside}
@@ -57,6 +57,18 @@ settingsOf vs = record {
   sp = getD vs 4 (pos 0);
   rate = getD vs 5 (pos 0);
   gains = setsFrom heads sets vs;
+}
+
+-- "with sets 4 to 15 equal to set 0": set 0 in the place of each set from n on
+abbrev pub filled : ℕ → Settings → Settings
+filled n s = record {
+  action = s .action;
+  lo = s .lo;
+  hi = s .hi;
+  out = s .out;
+  sp = s .sp;
+  rate = s .rate;
+  gains = take n (s .gains) ++ replicate (sets - n) (gainsAt (s .gains) 0);
 }
 
 -- "the blank: every number zero"

@@ -1,15 +1,18 @@
--- 01, "Settings text": "Settings C, whole".
+-- 01, "Settings text": "Settings C, whole". Its text ends after 26 lines, so by 02's request 5 it has "sets 4 to 15 equal to
+-- set 0".
 use Prim.Native.Nat.{ℕ}
 use mathlib.Core.List.{[], _∷_}
 use lib.IntN.{pos}
 use Rattle.settings.specs.declared.Gains.{Gains}
 use Rattle.settings.specs.declared.Settings.{Settings}
+use Rattle.settings.specs.Table.{shortSets}
+use Rattle.settings.specs.Settings.{filled}
 
 abbrev pub gainSet : ℕ → ℕ → ℕ → ℕ → ℕ → Gains
 gainSet kp ki kd alpha kt = record { kp = pos kp; ki = pos ki; kd = pos kd; alpha = pos alpha; kt = pos kt }
 
 abbrev pub settingsC : Settings
-settingsC = record {
+settingsC = filled shortSets (record {
   action = pos 0;
   lo = pos 0;
   hi = pos 1000;
@@ -22,4 +25,4 @@ settingsC = record {
       ∷ gainSet 65536 16384 0 65536 32768
       ∷ gainSet 32768 0 0 65536 0
       ∷ [];
-}
+})

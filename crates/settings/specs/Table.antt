@@ -1,4 +1,4 @@
--- 01, "Units" and "Settings text": the settings' keys, their order and their ranges.
+-- 01, "Units" and "Settings text", with 02's request 5: the settings' keys, their order and their ranges.
 use Prim.Native.Nat.{ℕ, zero, suc, _+_, _-_, _*_}
 use Prim.Native.String.{String}
 use mathlib.Core.Bool.{Bool}
@@ -9,6 +9,7 @@ use lib.IntN.{ℤ, pos, negℤ}
 use Rattle.whole.specs.Numbers.{inside}
 use Rattle.settings.specs.declared.table.Row.{Row}
 use Rattle.whole.specs.Words.{bytes}
+use Rattle.word.specs.Decimal.{shown}
 
 -- ---- the ends of the ranges
 
@@ -30,9 +31,9 @@ share = 65536
 
 -- ---- the table
 
--- a key with its `=` has at most seven bytes
+-- a key with its `=` has at most eight bytes
 abbrev pub longestKey : ℕ
-longestKey = 7
+longestKey = 8
 
 -- a key at the front of so many bytes, how many bytes it has, and the least and the most of the value
 abbrev pub row : String → ℤ → ℤ → Row
@@ -58,7 +59,7 @@ headRows =
     ∷ row "rate=" (pos 1) (pos fastest)
     ∷ []
 
--- "The last three rows stand in each of four gain sets": the letters of their five keys
+-- "The last three rows stand in each of four gain sets", which are sixteen now: the letters of their five keys
 abbrev pub gainRows : List Row
 gainRows =
     row "kp" (pos 0) (pos gain)
@@ -72,25 +73,43 @@ gainRows =
 unfoldable pub table : List Row
 table = headRows ++ gainRows
 
--- "four gain sets, 0 to 3"
+-- "Raise four to sixteen": gain sets 0 to 15
 abbrev pub sets : ℕ
-sets = 4
+sets = 16
+
+-- the four that there were, of which "a text that ends after 26 lines is still read"
+abbrev pub shortSets : ℕ
+shortSets = 4
 
 -- ---- the rows of the text's lines
 
--- how many stand before those of the gain sets, how many in each set, and how many there are
+-- how many stand before those of the gain sets, and how many in each set
 abbrev pub heads : ℕ
 heads = length headRows
 
 abbrev pub keys : ℕ
 keys = length gainRows
 
-abbrev pub lines : ℕ
-lines = heads + keys * sets
+-- how many there are with n gain sets
+abbrev pub linesFor : ℕ → ℕ
+linesFor n = heads + keys * n
 
--- the row in gain set k: the set's digit and `=` are put after its letters
+-- "the text has 86 lines"
+abbrev pub lines : ℕ
+lines = linesFor sets
+
+-- "a text that ends after 26 lines"
+abbrev pub shortLines : ℕ
+shortLines = linesFor shortSets
+
+-- the row in gain set k: the set's number and `=` are put after its letters
 abbrev pub numbered : Row → ℕ → Row
-numbered r k = record { 0 = puts (r .0) (r .1) ((48 + k) ∷ bytes "="); 1 = r .1 + 2; 2 = r .2; 3 = r .3 }
+numbered r k = record {
+  0 = puts (r .0) (r .1) (shown k ++ bytes "=");
+  1 = r .1 + (length (shown k) + 1);
+  2 = r .2;
+  3 = r .3;
+}
 
 -- "kp0 ki0 kd0 alpha0 kt0", with k in the place of 0
 abbrev pub setRows : ℕ → List Row
@@ -106,9 +125,12 @@ abbrev pub numbersFrom : ℕ → ℕ → List ℕ
 numbersFrom k zero = []
 numbersFrom k (suc n) = k ∷ numbersFrom (k + 1) n
 
--- "action, lo, hi, out, sp, rate, then kp0 ki0 kd0 alpha0 kt0, then the same for sets 1, 2 and 3"
-unfoldable pub rows : List Row
-rows = headRows ++ each setRows (numbersFrom 0 sets)
+-- "action, lo, hi, out, sp, rate, then kp0 ki0 kd0 alpha0 kt0, then the same for sets 1, 2 and 3", and on: with n gain sets
+unfoldable pub rowsOf : ℕ → List Row
+rowsOf n = headRows ++ each setRows (numbersFrom 0 n)
+
+abbrev pub rows : List Row
+rows = rowsOf sets
 
 -- ---- a value within its range
 

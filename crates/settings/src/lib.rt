@@ -4,7 +4,7 @@ ghost use Prim.Native.Nat.{_+_, _<_, _≤_};
 ghost use lib.IntN.{pos};
 ghost use lib.ListN.{getD};
 ghost use Rattle.settings.specs.Table.{heads, keys, lines};
-ghost use Rattle.settings.specs.Settings.{noGains, gainValues, gainsFrom, headValues, valuesOf, settingsOf, blankSettings, ordered, settingsRefusal};
+ghost use Rattle.settings.specs.Settings.{noGains, gainValues, gainsFrom, headValues, valuesOf, settingsOf, filled, blankSettings, ordered, settingsRefusal};
 
 pub mod table;
 
@@ -40,8 +40,8 @@ impl Settings {
     // The most of alpha and kt: F itself.
     pub const SHARE: i32 = 65_536;
 
-    // "Four gain sets, 0 to 3."
-    pub const SETS: usize = 4;
+    // "Raise four to sixteen": gain sets 0 to 15.
+    pub const SETS: usize = 16;
 
     // How many keys stand before those of the gain sets: action, lo, hi, out, sp, rate.
     pub const HEAD: usize = 6;
@@ -134,6 +134,21 @@ impl Settings {
             rate: values[5],
             gains,
         }
+    }
+
+    // The settings with set 0 in the place of each set from n on.
+    pub fn filled(mut self, n: usize) -> Settings
+        ensures { λ r. ⌜ r ≡ filled n self ⌝ }
+    {
+        let mut gains = self.gains;
+        let first = gains[0];
+        let mut k = n;
+        while k < Settings::SETS {
+            gains[k] = first;
+            k += 1;
+        }
+        self.gains = gains;
+        self
     }
 
     // Every number zero.

@@ -6,6 +6,8 @@ ghost use Rattle.settings.specs.Table.{longestKey, headRows, gainRows, t
 ghost use Rattle.settings.specs.Settings.{gainValues, headValues, allIn, inTable};
 use crate::Gains;
 use crate::Settings;
+use word::buffer::put;
+use word::buffer::put_unsigned;
 
 // A settings key, how many bytes it has, and the least and the most of the value.
 pub struct Row(pub [u8; Row::LONGEST], pub usize, pub i32, pub i32);
@@ -13,22 +15,22 @@ pub struct Row(pub [u8; Row::LONGEST], pub usize, pub i32, pub i32);
 // "The ranges of the settings are one constant table of rows, which reader, writer and maker all consult." The first have
 // their `=`. The last five stand in each gain set: its number and the `=` are put after their letters.
 const ROWS: [Row; Settings::HEAD + Settings::KEYS] = [
-    Row(*b"action=", 7, 0, 1),
-    Row(*b"lo=\0\0\0\0", 3, -Settings::REACH, Settings::REACH),
-    Row(*b"hi=\0\0\0\0", 3, -Settings::REACH, Settings::REACH),
-    Row(*b"out=\0\0\0", 4, -Settings::REACH, Settings::REACH),
-    Row(*b"sp=\0\0\0\0", 3, -Settings::REACH, Settings::REACH),
-    Row(*b"rate=\0\0", 5, 1, Settings::FASTEST),
-    Row(*b"kp\0\0\0\0\0", 2, 0, Settings::GAIN),
-    Row(*b"ki\0\0\0\0\0", 2, 0, Settings::GAIN),
-    Row(*b"kd\0\0\0\0\0", 2, 0, Settings::GAIN),
-    Row(*b"alpha\0\0", 5, 1, Settings::SHARE),
-    Row(*b"kt\0\0\0\0\0", 2, 0, Settings::SHARE),
+    Row(*b"action=\0", 7, 0, 1),
+    Row(*b"lo=\0\0\0\0\0", 3, -Settings::REACH, Settings::REACH),
+    Row(*b"hi=\0\0\0\0\0", 3, -Settings::REACH, Settings::REACH),
+    Row(*b"out=\0\0\0\0", 4, -Settings::REACH, Settings::REACH),
+    Row(*b"sp=\0\0\0\0\0", 3, -Settings::REACH, Settings::REACH),
+    Row(*b"rate=\0\0\0", 5, 1, Settings::FASTEST),
+    Row(*b"kp\0\0\0\0\0\0", 2, 0, Settings::GAIN),
+    Row(*b"ki\0\0\0\0\0\0", 2, 0, Settings::GAIN),
+    Row(*b"kd\0\0\0\0\0\0", 2, 0, Settings::GAIN),
+    Row(*b"alpha\0\0\0", 5, 1, Settings::SHARE),
+    Row(*b"kt\0\0\0\0\0\0", 2, 0, Settings::SHARE),
 ];
 
 impl Row {
     // The most bytes of a key with its `=`.
-    pub const LONGEST: usize = 7;
+    pub const LONGEST: usize = 8;
 
     // Row j of the constant table.
     fn kind(j: usize) -> Row
@@ -40,14 +42,14 @@ impl Row {
 
     // The row in gain set k.
     fn numbered(self, k: usize) -> Row
-        requires { ⌜ (self .1 + 2 ≤ longestKey) × (k < sets) ⌝ }
+        requires { ⌜ (self .1 ≤ longestKey) × (k < sets) ⌝ }
         ensures { λ r. ⌜ r ≡ numbered self k ⌝ }
     {
         let mut key = self.0;
         let n = self.1;
-        key[n] = b'0' + k as u8;
-        key[n + 1] = b'=';
-        Row(key, n + 2, self.2, self.3)
+        let end = n + put_unsigned(&mut key, n, k as u32);
+        put(&mut key, end, b"=");
+        Row(key, end + 1, self.2, self.3)
     }
 
     // The row of line i of the text, counted from 0; past the last, a row without a key.

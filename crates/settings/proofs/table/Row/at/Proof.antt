@@ -3,8 +3,8 @@ use mathlib.Core.Path.{sym, ap, _∙_}
 use native.Mathlib.Omega.{arith}
 use lib.ListN.{List·getD-eq-default}
 use Rattle.settings.specs.declared.table.Row.{Row}
-use Rattle.settings.specs.Table.{heads, keys, numbered, rows, noRow}
-use Rattle.settings.proofs.Rows.{row-head, row-set, rows-long, letters}
+use Rattle.settings.specs.Table.{sets, heads, keys, numbered, rows, noRow}
+use Rattle.settings.proofs.Rows.{row-head, row-set, rows-long, kind-short}
 use borrow.Author.Needs.{needs}
 use Rattle.settings.proofs.table.Row.at.Statement.{statement}
 use Rattle.settings.proofs.table.Row.at.Tie as tie
@@ -22,7 +22,7 @@ kind-requires-2 : tie.Need-kind-requires-2
 kind-requires-2 c κs = search needs
 
 numbered-requires : tie.Need-numbered-requires
-numbered-requires c κs = (rw (c .kind2 .ensures) (letters ((c .before .before .before .args .i - heads) % keys) (omega arith)), omega arith)
+numbered-requires c κs = (rw (c .kind2 .ensures) (kind-short _), omega arith)
 
 returns-2 : tie.Need-returns-2
 returns-2 c =
@@ -33,7 +33,7 @@ returns-2 c =
 
 returns-3 : tie.Need-returns-3
 unfolding noRow
-returns-3 c = sym (List·getD-eq-default rows noRow {n = c .before .before .args .i} (omega (arith, rows-long, c .if2 .left)))
+returns-3 c = sym (List·getD-eq-default rows noRow {n = c .before .before .args .i} (omega (arith, rows-long sets, c .if2 .left)))
 
 pub at-spec : {M : Type 1} → statement M
 at-spec =
