@@ -5,9 +5,9 @@ use mathlib.Core.Bool.{Bool, true, _&&_}
 use mathlib.Core.List.{List, [], _∷_, _++_, append-assoc}
 use native.Mathlib.Nat.{add-zero, zero-add}
 use native.Mathlib.Omega.{arith}
-use lib.ListN.{length, getD, length-append, List·getD-append}
+use lib.ListN.{length, getD, take, length-append, List·getD-append}
 use lib.Seq.{getD-append-add}
-use Rattle.whole.proofs.Truth.{both}
+use Rattle.whole.proofs.Truth.{both, and}
 use Rattle.settings.specs.Table.{each, numbersFrom}
 
 -- element j of block k is at place n k + j, where each block has n
@@ -57,3 +57,12 @@ pub all-at : {A : Type 0} (f : A → Bool) (d : A) (xs : List A) → all f xs �
 all-at f d [] e n i = n
 all-at f d (x ∷ xs) e n zero = both (f x) (all f xs) e .0
 all-at f d (x ∷ xs) e n (suc i) = all-at f d xs (both (f x) (all f xs) e .1) n i
+
+pub all-both : {A : Type 0} (f : A → Bool) (xs ys : List A) → all f xs ≡ true → all f ys ≡ true → all f (xs ++ ys) ≡ true
+all-both f [] ys p q = q
+all-both f (x ∷ xs) ys p q = let b = both (f x) (all f xs) p in and (b .0) (all-both f xs ys (b .1) q)
+
+pub all-take : {A : Type 0} (f : A → Bool) (xs : List A) (k : ℕ) → all f xs ≡ true → all f (take k xs) ≡ true
+all-take f xs zero e = refl
+all-take f [] (suc k) e = refl
+all-take f (x ∷ xs) (suc k) e = let b = both (f x) (all f xs) e in and (b .0) (all-take f xs k (b .1))

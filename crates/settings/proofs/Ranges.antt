@@ -11,7 +11,7 @@ use mir.Syntax.{w32}
 use mir.Val.{SFits, toZ, ofZ}
 use mir.Facts.{toZ-ofZ}
 use Rattle.whole.specs.Numbers.{inside}
-use Rattle.whole.proofs.Truth.{never, both}
+use Rattle.whole.proofs.Truth.{never, both, and}
 use Rattle.settings.specs.declared.Gains.{Gains}
 use Rattle.settings.specs.declared.Settings.{Settings}
 use Rattle.settings.specs.declared.table.Row.{Row}
@@ -38,7 +38,7 @@ last {t} {a} p = p ∙ alone a
     alone false = refl
 
 -- the test of the first rows, and then of the others
-all-append : (rs qs : List Row) (vs ws : List ℤ) → length vs ≡ length rs → allIn (rs ++ qs) (vs ++ ws) ≡ (allIn rs vs && allIn qs ws)
+pub all-append : (rs qs : List Row) (vs ws : List ℤ) → length vs ≡ length rs → allIn (rs ++ qs) (vs ++ ws) ≡ (allIn rs vs && allIn qs ws)
 all-append [] qs [] ws e = refl
 all-append [] qs (z ∷ vs) ws e = absurd (omega arith)
 all-append (r ∷ rs) qs [] ws e = absurd (omega arith)
@@ -47,6 +47,18 @@ all-append (r ∷ rs) qs (z ∷ vs) ws e = joined (inRow r z) (allIn rs vs) (all
     joined : (t v w : Bool) {u : Bool} → u ≡ (v && w) → (t && u) ≡ ((t && v) && w)
     joined true v w p = p
     joined false v w p = refl
+
+all-front : (rs qs : List Row) (vs : List ℤ) → allIn (rs ++ qs) vs ≡ true → allIn rs vs ≡ true
+all-front [] qs vs e = refl
+all-front (r ∷ rs) qs [] e = never e
+all-front (r ∷ rs) qs (z ∷ vs) e =
+    let b = both (inRow r z) (allIn (rs ++ qs) vs) e in
+    and (b .0) (all-front rs qs vs (b .1))
+
+pub rows-front : (n : ℕ) (vs : List ℤ) → n ≤ sets → allIn rows vs ≡ true → allIn (rowsOf n) vs ≡ true
+rows-front n vs h e =
+    let p : n + (sets - n) ≡ sets = omega arith in
+    all-front (rowsOf n) (each setRows (numbersFrom n (sets - n))) vs (sym (ap (λ (rs : List Row). allIn rs vs) (ap rowsOf (sym p) ∙ rows-split n (sets - n))) ∙ e)
 
 -- the test of the gain sets from set k on
 abbrev pub setsIn : List Gains → ℕ → Bool

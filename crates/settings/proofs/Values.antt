@@ -6,12 +6,12 @@ use native.Mathlib.Nat.{add-zero}
 use native.Mathlib.Numerals.{unary-clauses}
 use native.Mathlib.Omega.{arith}
 use lib.IntN.{ℤ, pos}
-use lib.ListN.{length, getD, take, drop, replicate, drop-of-length-le, length-append}
-use lib.Seq.{drop-cons, getD-append-add, getD-take, take-all}
+use lib.ListN.{length, getD, take, drop, replicate, drop-of-length-le, length-append, length-take, length-replicate, getD-replicate, List·getD-append}
+use lib.Seq.{drop-cons, getD-append-add, getD-take, take-all, take-at, length-take-le}
 use Rattle.settings.specs.declared.Gains.{Gains}
 use Rattle.settings.specs.declared.Settings.{Settings}
 use Rattle.settings.specs.Table.{sets, heads, keys, linesFor, lines, each}
-use Rattle.settings.specs.Settings.{gainValues, headValues, gainsAt, gainsFrom, setsFrom, valuesOf, settingsOf, filled}
+use Rattle.settings.specs.Settings.{gainValues, headValues, noGains, gainsAt, gainsFrom, setsFrom, valuesOf, settingsOf, filled}
 use Rattle.settings.proofs.Lists.{each-append}
 
 -- ---- values, and settings put together from them
@@ -70,6 +70,28 @@ filled-is n s e = rw e
 -- no set is left to fill
 pub filled-all : (s : Settings) → length (s .gains) ≡ sets → filled sets s ≡ s
 filled-all s e = sym (filled-is sets s (sym (append-nil (take sets (s .gains)) ∙ take-all sets (s .gains) (omega arith))))
+
+module _ (n : ℕ) (s : Settings) (m : n ≤ sets) (e : length (s .gains) ≡ sets) where
+  pub filled-long : length (filled n s .gains) ≡ sets
+  filled-long = simp (length-append, length-take, length-replicate) (omega arith)
+
+  -- a set that was missing is set 0
+  pub filled-at : (k : ℕ) → n ≤ k → k < sets → gainsAt (filled n s .gains) k ≡ gainsAt (s .gains) 0
+  filled-at k h l =
+      let t = length-take-le n (s .gains) (omega arith) in
+      let p : k ≡ length (take n (s .gains)) + (k - n) = omega (arith, t) in
+      let g = gainsAt (s .gains) 0 in
+      ap (gainsAt (filled n s .gains)) p
+      ∙ getD-append-add (take n (s .gains)) (replicate (sets - n) g) (k - n) noGains
+      ∙ getD-replicate (sets - n) (k - n) g noGains (omega arith)
+
+  -- filling again changes nothing
+  pub filled-twice : 1 ≤ n → filled n (filled n s) ≡ filled n s
+  filled-twice l =
+      let t = length-take-le n (s .gains) (omega arith) in
+      let again = replicate (sets - n) (gainsAt (s .gains) 0) in
+      let g : gainsAt (filled n s .gains) 0 ≡ gainsAt (s .gains) 0 = List·getD-append (take n (s .gains)) again noGains 0 (omega arith) ∙ getD-take n (s .gains) 0 noGains (omega arith) in
+      rw (take-at (take n (s .gains)) again n t, g)
 
 take-sets : (n m i : ℕ) (vs : List ℤ) → n ≤ m → take n (setsFrom i m vs) ≡ setsFrom i n vs
 take-sets zero m i vs h = refl

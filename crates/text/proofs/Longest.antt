@@ -1,8 +1,9 @@
 -- How long a text can be: each value at its row's widest, but that hi, being above lo, has at most 7 bytes.
-use Prim.Native.Nat.{ℕ, zero, suc, _+_, _≤_, max}
-use mathlib.Core.Path.{_≡_, refl}
+use Prim.Native.Nat.{ℕ, zero, suc, _+_, _*_, _<_, _≤_, max}
+use mathlib.Core.Path.{_≡_, refl, sym, ap, _∙_}
 use mathlib.Core.Bool.{true}
-use mathlib.Core.List.{List, [], _∷_}
+use mathlib.Core.List.{List, [], _∷_, _++_, map}
+use native.Mathlib.Nat.{suc-mul}
 use native.Mathlib.Omega.{arith}
 use lib.IntN.{ℤ, pos, _+ℤ_}
 use lib.ListN.{length, getD, set, length-append}
@@ -13,13 +14,15 @@ use Rattle.whole.proofs.Parts.{zs, yes-le}
 use Rattle.whole.proofs.Lin.{Lin, at, lin-add, lin-pos}
 use Rattle.settings.specs.declared.table.Row.{Row}
 use Rattle.settings.specs.declared.Settings.{Settings}
-use Rattle.settings.specs.Table.{rows, noRow, inRow}
+use Rattle.settings.specs.Table.{headRows, gainRows, sets, shortSets, keys, numbered, setRows, each, numbersFrom, rowsOf, rows, noRow, inRow}
 use Rattle.settings.specs.Settings.{allIn, inTable, ordered, valuesOf}
+use Rattle.settings.proofs.Lists.{all}
 use Rattle.settings.proofs.Rows.{rows-long}
-use Rattle.settings.proofs.Ranges.{all-at}
+use Rattle.settings.proofs.Ranges.{all-at, rows-front}
 use Rattle.word.specs.Decimal.{shown, decimal}
 use Rattle.word.proofs.Widths.{width}
-use Rattle.text.specs.Lines.{keyOf, linesOf, textOf, longestText}
+use Rattle.text.specs.Lines.{keyOf, linesOf, textFor, textOf, longestText, longestShort}
+use Rattle.text.proofs.Rows.{lettered, gains-lettered, key-numbered}
 
 -- ---- lines
 
@@ -37,6 +40,39 @@ lines-long (r ∷ rs) (z ∷ vs) e =
     let h = lines-long rs vs (b .1) in
     simp length-append (omega arith)
 
+longest-both : (rs qs : List Row) → longestOf (rs ++ qs) ≡ longestOf rs + longestOf qs
+longest-both [] qs = omega arith
+longest-both (r ∷ rs) qs = omega (arith, longest-both rs qs)
+
+-- ---- the lines of gain sets
+
+-- the number of the set and the `=` in each key
+set-longest : (k : ℕ) (rs : List Row) → k < sets → all lettered rs ≡ true →
+    longestOf (map (λ r. numbered r k) rs) ≡ longestOf rs + length rs * (length (shown k) + 1)
+set-longest k [] h e = omega arith
+set-longest k (r ∷ rs) h e =
+    let b = both (lettered r) (all lettered rs) e in
+    let n = ap length (key-numbered k h r (b .0)) in
+    let m : length (keyOf (numbered r k)) ≡ length (keyOf r) + (length (shown k) + 1) = simp length-append at n in
+    omega (arith, m, set-longest k rs h (b .1), suc-mul (length rs) (length (shown k) + 1))
+
+-- the digits of n numbers from k on
+abbrev digitsFrom : ℕ → ℕ → ℕ
+digitsFrom k zero = 0
+digitsFrom k (suc n) = length (shown k) + digitsFrom (k + 1) n
+
+gains-longest : longestOf gainRows ≡ 49
+unfolding shown
+gains-longest = refl
+
+sets-longest : (k n : ℕ) → k + n ≤ sets → longestOf (each setRows (numbersFrom k n)) ≡ 54 * n + keys * digitsFrom k n
+sets-longest k zero h = omega arith
+sets-longest k (suc n) h =
+    longest-both (setRows k) (each setRows (numbersFrom (k + 1) n))
+    ∙ omega (arith, set-longest k gainRows (omega arith) gains-lettered, gains-longest, sets-longest (k + 1) n (omega arith))
+
+-- ---- hi
+
 -- one row in the place of another
 in-set : (rs : List Row) (vs : List ℤ) (i : ℕ) (q : Row) → allIn rs vs ≡ true → inRow q (getD vs i (pos 0)) ≡ true → allIn (set rs i q) vs ≡ true
 in-set [] vs i q e g = refl
@@ -53,19 +89,48 @@ above least lo hi p q = let a : Lin (least +ℤ pos 1) = lin-add (at least) lin-
 -- the row of hi, and what its least value then is
 abbrev hiRow : Row
 hiRow = record {
-  0 = getD rows 2 noRow .0;
-  1 = getD rows 2 noRow .1;
-  2 = getD rows 1 noRow .2 +ℤ pos 1;
-  3 = getD rows 2 noRow .3;
+  0 = getD headRows 2 noRow .0;
+  1 = getD headRows 2 noRow .1;
+  2 = getD headRows 1 noRow .2 +ℤ pos 1;
+  3 = getD headRows 2 noRow .3;
 }
 
--- "The longest text has 306 bytes."
+head-longest : longestOf (set headRows 2 hiRow) ≡ 70
+unfolding shown
+head-longest = refl
+
+-- ---- the text
+
+-- with the lines of n gain sets
+module _ (n : ℕ) (s : Settings) (m : n ≤ sets) (e : inTable s ≡ true) (o : ordered s ≡ true) where
+  -- hi in the row that is left to it
+  hi-in : allIn (set (rowsOf n) 2 hiRow) (valuesOf s) ≡ true
+  unfolding inTable rowsOf
+  hi-in =
+      let lo = all-at rows (valuesOf s) e 1 (omega (arith, rows-long sets)) in
+      let hi = all-at rows (valuesOf s) e 2 (omega (arith, rows-long sets)) in
+      let lo-least = both (leZ (getD headRows 1 noRow .2) (s .lo)) (leZ (s .lo) (getD headRows 1 noRow .3)) lo .0 in
+      let hi-most = both (leZ (getD headRows 2 noRow .2) (s .hi)) (leZ (s .hi) (getD headRows 2 noRow .3)) hi .1 in
+      let lower = both (ltZ (s .lo) (s .hi)) (inside (s .lo) (s .hi) (s .out)) o .0 in
+      in-set (rowsOf n) (valuesOf s) 2 hiRow (rows-front n (valuesOf s) m e) (and (above (getD headRows 1 noRow .2) (s .lo) (s .hi) lo-least lower) hi-most)
+
+  lines-most : length (textFor n s) ≤ 70 + (54 * n + keys * digitsFrom 0 n)
+  unfolding textFor rowsOf
+  lines-most =
+      omega (arith, lines-long (set (rowsOf n) 2 hiRow) (valuesOf s) hi-in, longest-both (set headRows 2 hiRow) (each setRows (numbersFrom 0 n)), head-longest, sets-longest 0 n (omega arith))
+
+all-digits : digitsFrom 0 sets ≡ 22
+unfolding shown
+all-digits = refl
+
+short-digits : digitsFrom 0 shortSets ≡ 4
+unfolding shown
+short-digits = refl
+
+-- "1,044 bytes at most"
 pub text-long : (s : Settings) → inTable s ≡ true → ordered s ≡ true → length (textOf s) ≤ longestText
-unfolding inTable textOf rows noRow shown
-text-long s e o =
-    let lo = all-at rows (valuesOf s) e 1 (omega (arith, rows-long)) in
-    let hi = all-at rows (valuesOf s) e 2 (omega (arith, rows-long)) in
-    let lo-least = both (leZ (getD rows 1 noRow .2) (s .lo)) (leZ (s .lo) (getD rows 1 noRow .3)) lo .0 in
-    let hi-most = both (leZ (getD rows 2 noRow .2) (s .hi)) (leZ (s .hi) (getD rows 2 noRow .3)) hi .1 in
-    let lower = both (ltZ (s .lo) (s .hi)) (inside (s .lo) (s .hi) (s .out)) o .0 in
-    lines-long (set rows 2 hiRow) (valuesOf s) (in-set rows (valuesOf s) 2 hiRow e (and (above (getD rows 1 noRow .2) (s .lo) (s .hi) lo-least lower) hi-most))
+text-long s e o = omega (arith, lines-most sets s (omega arith) e o, all-digits)
+
+-- "The longest text has 306 bytes", of those with 26 lines
+pub short-long : (s : Settings) → inTable s ≡ true → ordered s ≡ true → length (textFor shortSets s) ≤ longestShort
+short-long s e o = omega (arith, lines-most shortSets s (omega arith) e o, short-digits)

@@ -1,20 +1,20 @@
 -- The text of 01's settings C, and settings whose text is the longest.
 use Prim.Native.Nat.{ℕ}
-use mathlib.Core.Path.{_≡_, refl}
+use mathlib.Core.Path.{_≡_, refl, ap}
 use mathlib.Core.List.{List, _++_}
 use lib.IntN.{pos, negsuc}
 use lib.ListN.{length, replicate}
 use Rattle.settings.specs.declared.Gains.{Gains}
 use Rattle.settings.specs.declared.Settings.{Settings}
 use Rattle.whole.specs.Words.{bytes}
-use Rattle.settings.specs.Table.{gain, share, sets, rows}
+use Rattle.settings.specs.Table.{gain, share, sets, shortSets, rowsOf}
+use Rattle.settings.specs.Settings.{inTable, settingsRefusal}
 use Rattle.settings.specs.SettingsC.{gainSet, settingsC}
-use Rattle.word.specs.Decimal.{isSize, hasMinus, unsigned, sizeOf, isDecimal, numberOf, shown}
-use Rattle.text.specs.Lines.{textOf, longestText}
-use Rattle.text.specs.Reader.{lineIn, ended, afterLine, wordIn, formed, lineCode, lineValue, readEnd, readText}
-
-abbrev widest : Gains
-widest = gainSet gain gain gain share share
+use Rattle.word.specs.Decimal.{shown}
+use Rattle.text.specs.declared.reader.Reading.{Reading}
+use Rattle.text.specs.Lines.{textFor, textOf, longestText, longestShort}
+use Rattle.text.specs.Reader.{readText}
+use Rattle.text.proofs.Trip.{text-read, short-read}
 
 abbrev pub textC : List ℕ
 textC =
@@ -24,15 +24,21 @@ textC =
     ++ bytes "kp2=65536\nki2=16384\nkd2=0\nalpha2=65536\nkt2=32768\n"
     ++ bytes "kp3=32768\nki3=0\nkd3=0\nalpha3=65536\nkt3=0\n"
 
-pub c-written : textOf settingsC ≡ textC
-unfolding textOf rows shown
+pub c-written : textFor shortSets settingsC ≡ textC
+unfolding textFor rowsOf shown
 c-written = refl
 
+c-right : settingsRefusal settingsC ≡ 0
+unfolding inTable rowsOf
+c-right = refl
+
 pub c-read : readText textC ≡ record { code = 0; line = 0; settings = settingsC }
-unfolding readText rows lineCode lineValue lineIn ended afterLine wordIn formed isDecimal numberOf isSize hasMinus unsigned sizeOf readEnd
-c-read = refl
+c-read = rw (← c-written) (short-read settingsC refl c-right refl)
 
 -- each value at its widest
+abbrev widest : Gains
+widest = gainSet gain gain gain share share
+
 abbrev pub longest : Settings
 longest = record {
   action = pos 1;
@@ -44,10 +50,16 @@ longest = record {
   gains = replicate sets widest;
 }
 
-pub longest-written : length (textOf longest) ≡ longestText
-unfolding textOf rows shown
-longest-written = refl
+longest-right : settingsRefusal longest ≡ 0
+unfolding inTable rowsOf
+longest-right = refl
 
-pub longest-read : readText (textOf longest) .code ≡ 0
-unfolding textOf rows shown readText lineCode lineValue lineIn ended afterLine wordIn formed isDecimal numberOf isSize hasMinus unsigned sizeOf readEnd
-longest-read = refl
+pub longest-written : (length (textOf longest) ≡ longestText) × (length (textFor shortSets longest) ≡ longestShort)
+unfolding textFor rowsOf shown
+longest-written = (refl, refl)
+
+pub longest-read : (readText (textOf longest) .code ≡ 0) × (readText (textFor shortSets longest) .code ≡ 0)
+longest-read = (
+  ap (λ (d : Reading). d .code) (text-read longest refl longest-right),
+  ap (λ (d : Reading). d .code) (short-read longest refl longest-right refl),
+)

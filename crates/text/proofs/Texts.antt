@@ -1,19 +1,19 @@
 -- Laws of what a text is read as.
-use Prim.Native.Nat.{ℕ, _+_, _-_, _<_, _≤_}
+use Prim.Native.Nat.{ℕ, zero, suc, _+_, _-_, _<_, _≤_}
 use mathlib.Core.Path.{_≡_, refl, sym, ap, _∙_}
 use mathlib.Core.Bool.{Bool, true, false, cond, _&&_}
 use mathlib.Core.List.{List, [], _∷_, _++_}
 use mathlib.Core.Logic.{_⊎_, inl, inr}
 use native.Mathlib.Omega.{arith}
-use borrow.Author.Tests.{ltb-true, ltb-false, eq-eqb, ne-eqb, eqb-true, eqb-false}
+use borrow.Author.Tests.{lt-ltb, le-ltb, ltb-true, ltb-false, eq-eqb, ne-eqb, eqb-true, eqb-false}
 use lib.Dec.{ltb, eqb}
 use lib.IntN.{ℤ, pos}
-use lib.ListN.{length, take, drop, length-drop}
+use lib.ListN.{length, take, drop, length-drop, drop-of-length-le}
 use Rattle.whole.proofs.Truth.{both, chosen, by-test, zero-if, zero-then}
 use Rattle.settings.specs.declared.table.Row.{Row}
 use Rattle.settings.specs.declared.Settings.{Settings}
-use Rattle.settings.specs.Table.{lines, rows, inRow}
-use Rattle.settings.specs.Settings.{settingsOf, ordered}
+use Rattle.settings.specs.Table.{sets, shortSets, shortLines, linesFor, lines, rowsOf, inRow}
+use Rattle.settings.specs.Settings.{settingsOf, filled, ordered}
 use Rattle.word.specs.declared.decimal.Decimal.the-variants.{Is, Wrong}
 use Rattle.word.specs.Decimal.{numberOf, decimalOf}
 use Rattle.word.specs.End.{endAt, feed, begins}
@@ -21,7 +21,7 @@ use Rattle.word.proofs.Words.{part-after}
 use Rattle.text.specs.declared.reader.Line.{Line}
 use Rattle.text.specs.declared.reader.Reading.{Reading}
 use Rattle.text.specs.Lines.{keyOf}
-use Rattle.text.specs.Reader.{lineIn, ended, wordIn, formed, valueIn, lineValue, lineCode, lineRead, afterLine, refused, readEnd, readFrom, readText}
+use Rattle.text.specs.Reader.{lineIn, ended, wordIn, formed, valueIn, lineValue, lineCode, lineRead, afterLine, afterLines, refused, readEnd, readFrom, setsIn, readText}
 use Rattle.settings.proofs.Rows.{rows-long}
 use Rattle.text.proofs.Rows.{rows-done}
 
@@ -102,47 +102,79 @@ pub after-shorter : (s : List ℕ) → length (afterLine s) ≤ length s
 unfolding afterLine
 after-shorter s = rw length-drop (omega arith)
 
+-- ---- several lines
+
+after-none : (n : ℕ) → afterLines n [] ≡ []
+unfolding afterLine
+after-none zero = refl
+after-none (suc n) = after-none n
+
+-- nothing stands after a line that has no line feed
+pub no-feed : (n : ℕ) (s : List ℕ) → length s ≤ endAt feed s → afterLines (suc n) s ≡ []
+unfolding afterLine
+no-feed n s h = ap (afterLines n) (drop-of-length-le s {i = endAt feed s + 1} (omega arith)) ∙ after-none n
+
+pub one-line : (n i : ℕ) (s : List ℕ) → i < n → afterLines (n - i) s ≡ afterLines (n - (i + 1)) (afterLine s)
+one-line n i s h = let e : n - i ≡ suc (n - (i + 1)) = omega arith in rw e
+
+-- how many gain sets a text has
+pub goes-on : (s : List ℕ) → 0 < length (afterLines shortLines s) → setsIn s ≡ sets
+unfolding setsIn
+goes-on s h = rw (lt-ltb 0 (length (afterLines shortLines s)) h)
+
+pub ends-short : (s : List ℕ) → length (afterLines shortLines s) ≤ 0 → setsIn s ≡ shortSets
+unfolding setsIn
+ends-short s h = rw (le-ltb 0 (length (afterLines shortLines s)) h)
+
+pub sets-some : (s : List ℕ) → (shortSets ≤ setsIn s) × (setsIn s ≤ sets)
+unfolding setsIn
+sets-some s =
+    chosen (λ (k : ℕ). (shortSets ≤ k) × (k ≤ sets)) (ltb 0 (length (afterLines shortLines s)))
+    (λ _. (omega arith, omega arith))
+    (λ _. (omega arith, omega arith))
+
 -- ---- after the last line
 
-module _ (vs : List ℤ) (left : ℕ) where
-  pub bytes-left : ltb 0 left ≡ true → readEnd vs left ≡ refused 17 0
+module _ (x : Settings) (left : ℕ) where
+  pub bytes-left : ltb 0 left ≡ true → readEnd x left ≡ refused 17 0
   unfolding readEnd
   bytes-left h = rw h
 
-  pub not-ordered : ltb 0 left ≡ false → ordered (settingsOf vs) ≡ false → readEnd vs left ≡ refused 16 0
+  pub not-ordered : ltb 0 left ≡ false → ordered x ≡ false → readEnd x left ≡ refused 16 0
   unfolding readEnd
   not-ordered h e = rw (h, e)
 
-  pub end-taken : ltb 0 left ≡ false → ordered (settingsOf vs) ≡ true → readEnd vs left ≡ record { code = 0; line = 0; settings = settingsOf vs }
+  pub end-taken : ltb 0 left ≡ false → ordered x ≡ true → readEnd x left ≡ record { code = 0; line = 0; settings = x }
   unfolding readEnd
   end-taken h e = rw (h, e)
 
--- after an accepted text no byte is left, and the values are in order
-pub record Ended (vs : List ℤ) (left : ℕ) : Type 0 where
+-- after an accepted text no byte is left, and the settings are in order
+pub record Ended (x : Settings) (left : ℕ) : Type 0 where
   pub none : left ≡ 0
-  pub order : ordered (settingsOf vs) ≡ true
+  pub order : ordered x ≡ true
 
-pub end-yes : (vs : List ℤ) (left : ℕ) → readEnd vs left .code ≡ 0 → Ended vs left
-end-yes vs left e = by-test (ltb 0 left)
-    (λ h. absurd (let q : 17 ≡ 0 = sym (ap (λ (x : Reading). x .code) (bytes-left vs left h)) ∙ e in omega arith))
-    (λ h. let z = ltb-false 0 left h in by-test (ordered (settingsOf vs)) (λ o. record { none = omega arith; order = o })
-    (λ o. absurd (let q : 16 ≡ 0 = sym (ap (λ (x : Reading). x .code) (not-ordered vs left h o)) ∙ e in omega arith)))
+pub end-yes : (x : Settings) (left : ℕ) → readEnd x left .code ≡ 0 → Ended x left
+end-yes x left e = by-test (ltb 0 left)
+    (λ h. absurd (let q : 17 ≡ 0 = sym (ap (λ (d : Reading). d .code) (bytes-left x left h)) ∙ e in omega arith))
+    (λ h. let z = ltb-false 0 left h in by-test (ordered x) (λ o. record { none = omega arith; order = o })
+    (λ o. absurd (let q : 16 ≡ 0 = sym (ap (λ (d : Reading). d .code) (not-ordered x left h o)) ∙ e in omega arith)))
 
 -- ---- the text
 
-module _ (n : ℕ) (vs : List ℤ) (s : List ℕ) where
-  pub lines-done : (i : ℕ) → lines ≤ i → readFrom (drop i rows) n vs s ≡ readEnd vs (length s)
-  lines-done i h = ap (λ (rs : List Row). readFrom rs n vs s) (rows-done i h)
+-- one that has the lines of k gain sets
+module _ (k n : ℕ) (vs : List ℤ) (s : List ℕ) where
+  pub lines-done : (i : ℕ) → linesFor k ≤ i → readFrom k (drop i (rowsOf k)) n vs s ≡ readEnd (filled k (settingsOf vs)) (length s)
+  lines-done i h = ap (λ (rs : List Row). readFrom k rs n vs s) (rows-done k i h)
 
   module _ (r : Row) (rs : List Row) where
-    pub line-refused : (lineCode r s ≡ 0 → ⊥) → readFrom (r ∷ rs) n vs s ≡ refused (lineCode r s) n
+    pub line-refused : (lineCode r s ≡ 0 → ⊥) → readFrom k (r ∷ rs) n vs s ≡ refused (lineCode r s) n
     line-refused f = rw (ne-eqb (lineCode r s) 0 f)
 
-    pub line-taken : lineCode r s ≡ 0 → readFrom (r ∷ rs) n vs s ≡ readFrom rs (n + 1) (vs ++ (lineValue r s ∷ [])) (afterLine s)
+    pub line-taken : lineCode r s ≡ 0 → readFrom k (r ∷ rs) n vs s ≡ readFrom k rs (n + 1) (vs ++ (lineValue r s ∷ [])) (afterLine s)
     line-taken e = rw (eq-eqb (lineCode r s) 0 e)
 
     -- where the text is accepted, so is its first line
-    pub first-taken : readFrom (r ∷ rs) n vs s .code ≡ 0 → lineCode r s ≡ 0
+    pub first-taken : readFrom k (r ∷ rs) n vs s .code ≡ 0 → lineCode r s ≡ 0
     first-taken e = by-test (eqb (lineCode r s) 0) (λ h. eqb-true (lineCode r s) 0 h)
         (λ h. sym (ap (λ (x : Reading). x .code) (line-refused (eqb-false (lineCode r s) 0 h))) ∙ e)
 
@@ -160,16 +192,18 @@ module _ (P : Reading → Type 0)
     (done : (s : Settings) → P (record { code = 0; line = 0; settings = s }))
     (at-line : (code n : ℕ) → (code ≡ 14) ⊎ (code ≡ 15) → 1 ≤ n → n ≤ lines → P (refused code n))
     (at-end : (code : ℕ) → (code ≡ 17) ⊎ (code ≡ 16) → P (refused code 0)) where
-  lines-answer : (rs : List Row) (n : ℕ) (vs : List ℤ) (s : List ℕ) → 1 ≤ n → n + length rs ≤ lines + 1 → P (readFrom rs n vs s)
+  lines-answer : (k : ℕ) (rs : List Row) (n : ℕ) (vs : List ℤ) (s : List ℕ) → 1 ≤ n → n + length rs ≤ lines + 1 → P (readFrom k rs n vs s)
   unfolding readEnd
-  lines-answer [] n vs s h k =
-      chosen P (ltb 0 (length s)) (λ _. at-end 17 (inl refl))
-      (λ _. chosen P (ordered (settingsOf vs)) (λ _. done (settingsOf vs)) (λ _. at-end 16 (inr refl)))
-  lines-answer (r ∷ rs) n vs s h k =
+  lines-answer k [] n vs s h m =
+      let x = filled k (settingsOf vs) in
+      chosen P (ltb 0 (length s)) (λ _. at-end 17 (inl refl)) (λ _. chosen P (ordered x) (λ _. done x) (λ _. at-end 16 (inr refl)))
+  lines-answer k (r ∷ rs) n vs s h m =
       chosen P (eqb (lineCode r s) 0)
-      (λ _. lines-answer rs (n + 1) (vs ++ (lineValue r s ∷ [])) (afterLine s) (omega arith) (omega arith))
+      (λ _. lines-answer k rs (n + 1) (vs ++ (lineValue r s ∷ [])) (afterLine s) (omega arith) (omega arith))
       (λ f. at-line (lineCode r s) n (line-codes r s (eqb-false (lineCode r s) 0 f)) h (omega arith))
 
   pub text-answer : (s : List ℕ) → P (readText s)
   unfolding readText
-  text-answer s = lines-answer rows 1 [] s (omega arith) (omega (arith, rows-long))
+  text-answer s =
+      let k = setsIn s in
+      lines-answer k (rowsOf k) 1 [] s (omega arith) (omega (arith, rows-long k, sets-some s .1))

@@ -14,16 +14,16 @@ use mir.Val.{SFits}
 use Rattle.whole.proofs.Truth.{zero-if, zero-else, zero-then}
 use Rattle.settings.specs.declared.table.Row.{Row}
 use Rattle.settings.specs.declared.Settings.{Settings}
-use Rattle.settings.specs.Table.{longestKey}
+use Rattle.settings.specs.Table.{longestKey, shortSets}
 use Rattle.settings.specs.Settings.{inTable, ordered, settingsRefusal}
 use Rattle.word.specs.Decimal.{decimalRoom}
 use Rattle.word.specs.End.{feed}
 use Rattle.word.proofs.Shows.{decimal-room}
 use Rattle.word.proofs.Stores.{sets-append}
 use Rattle.text.specs.declared.writer.Written.{Written}
-use Rattle.text.specs.Lines.{lineOf, textOf, longestText}
+use Rattle.text.specs.Lines.{lineOf, textFor, textOf, longestText, longestShort}
 use Rattle.text.specs.Writer.{writeCode, writtenOf, bufferAfter}
-use Rattle.text.proofs.Longest.{text-long}
+use Rattle.text.proofs.Longest.{text-long, short-long}
 
 -- ---- a line
 
@@ -78,6 +78,9 @@ sound s e =
 
 pub sound-long : (s : Settings) → settingsRefusal s ≡ 0 → length (textOf s) ≤ longestText
 sound-long s e = let t = sound s e in text-long s (t .within) (t .order)
+
+pub sound-short : (s : Settings) → settingsRefusal s ≡ 0 → length (textFor shortSets s) ≤ longestShort
+sound-short s e = let t = sound s e in short-long s (t .within) (t .order)
 
 -- ---- a code that is 0: nothing is wrong with the settings, and the text fits
 pub record Wrote (s : Settings) (buffer : List ℕ) : Type 0 where

@@ -1,13 +1,14 @@
--- 01, "Settings text": what a text is read as.
-use Prim.Native.Nat.{ℕ, _+_}
+-- 01, "Settings text", with 02's request 5: what a text is read as.
+use Prim.Native.Nat.{ℕ, zero, suc, _+_}
 use mathlib.Core.Bool.{Bool, cond, _&&_}
 use mathlib.Core.List.{List, [], _∷_, _++_}
 use lib.Dec.{ltb, eqb}
 use lib.IntN.{ℤ, pos}
 use lib.ListN.{length, take, drop}
 use Rattle.settings.specs.declared.table.Row.{Row}
-use Rattle.settings.specs.Table.{rows, inRow}
-use Rattle.settings.specs.Settings.{settingsOf, blankSettings, ordered}
+use Rattle.settings.specs.declared.Settings.{Settings}
+use Rattle.settings.specs.Table.{sets, shortSets, shortLines, rowsOf, inRow}
+use Rattle.settings.specs.Settings.{settingsOf, filled, blankSettings, ordered}
 use Rattle.word.specs.declared.decimal.Decimal.{Decimal}
 use Rattle.word.specs.declared.decimal.Decimal.the-variants.{Is, Wrong}
 use Rattle.word.specs.Decimal.{isDecimal, numberOf}
@@ -63,16 +64,27 @@ abbrev pub refused : ℕ → ℕ → Reading
 refused code n = record { code = code; line = n; settings = blankSettings }
 
 -- "Then 17, then 16. Codes other than 14 and 15 report line 0": left bytes stand after the last line
-unfoldable pub readEnd : List ℤ → ℕ → Reading
-readEnd vs left =
+unfoldable pub readEnd : Settings → ℕ → Reading
+readEnd x left =
     cond (ltb 0 left) (refused 17 0)
-    (cond (ordered (settingsOf vs)) (record { code = 0; line = 0; settings = settingsOf vs }) (refused 16 0))
+    (cond (ordered x) (record { code = 0; line = 0; settings = x }) (refused 16 0))
 
--- "Lines count from 1 and are tested in order": line n is that of the first row, and vs are the values before it
-abbrev pub readFrom : List Row → ℕ → List ℤ → List ℕ → Reading
-readFrom [] n vs s = readEnd vs (length s)
-readFrom (r ∷ rs) n vs s =
-    cond (eqb (lineCode r s) 0) (readFrom rs (n + 1) (vs ++ (lineValue r s ∷ [])) (afterLine s)) (refused (lineCode r s) n)
+-- "Lines count from 1 and are tested in order": line n is that of the first row, and vs are the values before it; the text has
+-- the lines of k gain sets
+abbrev pub readFrom : ℕ → List Row → ℕ → List ℤ → List ℕ → Reading
+readFrom k [] n vs s = readEnd (filled k (settingsOf vs)) (length s)
+readFrom k (r ∷ rs) n vs s =
+    cond (eqb (lineCode r s) 0) (readFrom k rs (n + 1) (vs ++ (lineValue r s ∷ [])) (afterLine s)) (refused (lineCode r s) n)
+
+-- what stands after n lines
+abbrev pub afterLines : ℕ → List ℕ → List ℕ
+afterLines zero s = s
+afterLines (suc n) s = afterLines n (afterLine s)
+
+-- "A text that ends after 26 lines is still read"; where bytes stand after them, they "go on as line 27": the gain sets whose
+-- lines the text is to have
+unfoldable pub setsIn : List ℕ → ℕ
+setsIn s = cond (ltb 0 (length (afterLines shortLines s))) sets shortSets
 
 unfoldable pub readText : List ℕ → Reading
-readText s = readFrom rows 1 [] s
+readText s = readFrom (setsIn s) (rowsOf (setsIn s)) 1 [] s

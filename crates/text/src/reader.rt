@@ -3,7 +3,7 @@ ghost use mathlib.Core.Path.{_≡_};
 ghost use Prim.Native.Nat.{_≤_};
 ghost use Rattle.settings.specs.Table.{longestKey};
 ghost use Rattle.word.specs.End.{endAt, feed};
-ghost use Rattle.text.specs.Reader.{valueIn, lineRead, refused, readEnd, readText};
+ghost use Rattle.text.specs.Reader.{valueIn, lineRead, refused, readEnd, afterLines, setsIn, readText};
 use settings::Settings;
 use settings::table::Row;
 use word::decimal::Decimal;
@@ -16,6 +16,12 @@ pub struct Reading {
     pub line: usize,
     pub settings: Settings,
 }
+
+// "A text that ends after 26 lines is still read": the gain sets whose lines it has.
+const SHORT_SETS: usize = 4;
+
+// The lines of such a text.
+const SHORT_LINES: usize = Settings::HEAD + Settings::KEYS * SHORT_SETS;
 
 // What a line is read as: code 14, 15 or 0, and its value where that is 0.
 struct Line {
@@ -70,10 +76,9 @@ fn refused(code: u8, line: usize) -> Reading
 }
 
 // "Then 17, then 16."
-fn read_end(values: [i32; Settings::LINES], left: usize) -> Reading
-    ensures { λ r. ⌜ r ≡ readEnd values left ⌝ }
+fn read_end(settings: Settings, left: usize) -> Reading
+    ensures { λ r. ⌜ r ≡ readEnd settings left ⌝ }
 {
-    let settings = Settings::of(values);
     let ordered = settings.is_ordered();
     let follows = 0 < left;
     if follows {
@@ -89,14 +94,44 @@ fn read_end(values: [i32; Settings::LINES], left: usize) -> Reading
     }
 }
 
+// What stands after the first n lines of a text.
+fn after_lines(text: &[u8], n: usize) -> &[u8]
+    ensures { λ r. ⌜ now r ≡ afterLines n (now (text .entry)) ⌝ }
+{
+    let mut rest = text;
+    let mut i: usize = 0;
+    while i < n {
+        let end = end_at(rest, b'\n');
+        if rest.len() <= end {
+            return &rest[end..];
+        }
+        rest = &rest[end + 1..];
+        i += 1;
+    }
+    rest
+}
+
+// The gain sets whose lines a text is to have: four where it ends after line 26 or before, else all.
+fn sets_in(text: &[u8]) -> usize
+    ensures { λ r. ⌜ r ≡ setsIn (now (text .entry)) ⌝ }
+{
+    let left = after_lines(text, SHORT_LINES);
+    if 0 < left.len() {
+        return Settings::SETS;
+    }
+    SHORT_SETS
+}
+
 // Reads a settings text. "Lines count from 1 and are tested in order."
 pub fn read_settings(text: &[u8]) -> Reading
     ensures { λ r. ⌜ r ≡ readText (now (text .entry)) ⌝ }
 {
+    let sets = sets_in(text);
+    let lines = Settings::HEAD + Settings::KEYS * sets;
     let mut values = [0i32; Settings::LINES];
     let mut rest = text;
     let mut i: usize = 0;
-    while i < Settings::LINES {
+    while i < lines {
         let end = end_at(rest, b'\n');
         let line = read_line(Row::at(i), rest, end);
         let code = line.code;
@@ -108,5 +143,5 @@ pub fn read_settings(text: &[u8]) -> Reading
         rest = &rest[end + 1..];
         i += 1;
     }
-    read_end(values, rest.len())
+    read_end(Settings::of(values).filled(sets), rest.len())
 }

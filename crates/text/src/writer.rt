@@ -17,8 +17,8 @@ pub struct Written {
     pub len: usize,
 }
 
-// "The longest text has 306 bytes."
-const LONGEST: usize = 306;
+// "86 lines, 1,044 bytes at most"
+const LONGEST: usize = 1044;
 
 // Puts a line from place at on, and answers the place after it.
 fn put_line(buffer: &mut [u8], at: usize, row: Row, x: i32) -> usize

@@ -16,7 +16,7 @@ use Rattle.settings.proofs.Fit.{settings-fit}
 use Rattle.settings.proofs.Rows.{values-long}
 use Rattle.word.specs.Decimal.{decimalRoom}
 use Rattle.word.proofs.Stores.{rest-stored}
-use Rattle.text.specs.Lines.{lineOf, linesOf, textOf}
+use Rattle.text.specs.Lines.{lineOf, linesOf, textFor, textOf}
 use Rattle.text.proofs.Writes.{line-short}
 use Rattle.text.proofs.Rows.{key-short, lines-next, lines-end}
 use Rattle.text.proofs.writer.put_lines.Statement.{statement}
@@ -34,7 +34,7 @@ abbrev μ-loop : tie.MeasureT-loop
 μ-loop settings buffer₀ at₀ i₀ buffer at i = lines - i
 
 loop-holds : tie.Need-loop-holds Inv-loop μ-loop
-unfolding textOf
+unfolding textFor
 loop-holds c = (omega arith, refl, omega arith, sym (zero-add (length (linesOf rows (valuesOf (c .before .args .settings))))), refl)
 
 at-requires : tie.Need-at-requires Inv-loop μ-loop
