@@ -11,7 +11,7 @@ use Rattle.whole.proofs.Parts.{zs}
 use Rattle.whole.proofs.Lin.{Lin, at, lins}
 use Rattle.whole.proofs.Negated.{lt-neg, eqZ-neg, inside-neg}
 use Rattle.settings.specs.declared.Settings.{Settings}
-use Rattle.settings.specs.Table.{reach, rows}
+use Rattle.settings.specs.Table.{reach, rowsOf}
 use Rattle.settings.specs.Settings.{inTable, ordered, settingsRefusal}
 use Rattle.pid.specs.Record.{inReach}
 use Rattle.mirror.specs.Mirror.{Mirror, ofAction, ofTemperatures, flipTemperature, flipAction, flipSettings}
@@ -54,7 +54,7 @@ heads k s rest =
     (ap (λ (b : Bool). inside (pos 0) (pos 1) (s .action) && b) (and-swap (inReach (s .hi)) (inReach (s .lo)) _))
 
 pub table-mirror : (k : Mirror) (s : Settings) → inTable (flipSettings k s) ≡ inTable s
-unfolding inTable rows
+unfolding inTable rowsOf
 table-mirror k s = heads k s _
 
 pub ordered-mirror : (k : Mirror) (s : Settings) → ordered (flipSettings k s) ≡ ordered s

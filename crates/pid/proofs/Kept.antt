@@ -1,5 +1,5 @@
 -- The state rules hold again after every command that the law accepts.
-use Prim.Native.Nat.{ℕ}
+use Prim.Native.Nat.{ℕ, _-_}
 use mathlib.Core.Path.{_≡_, refl}
 use mathlib.Core.Bool.{Bool, true, false, not, cond, _&&_, _||_}
 use native.Mathlib.Omega.{arith}
@@ -111,8 +111,8 @@ sample-holds l pv h e =
       pending = rw (sample-pending (l .automatic) (l .pending)) (h .pending);
     }
 
-set-in : (k : ℤ) → inside (pos 0) (pos 3) k ≡ true → ltb (plus k) sets ≡ true
-set-in (pos n) e = let b = inside-yes (pos 0) (pos 3) (pos n) e in lt-ltb n sets (omega (arith, zs))
+set-in : (k : ℤ) → inside (pos 0) (pos (sets - 1)) k ≡ true → ltb (plus k) sets ≡ true
+set-in (pos n) e = let b = inside-yes (pos 0) (pos (sets - 1)) (pos n) e in lt-ltb n sets (omega (arith, zs))
 set-in (negsuc n) e = never e
 
 pub step-holds : (l : Loop) (c : Command) → Holds l → refusalOf l c ≡ 0 → Holds (stepOf l c)

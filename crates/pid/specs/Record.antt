@@ -59,7 +59,7 @@ inReach z = inside (negℤ (pos reach)) (pos reach) z
 abbrev pub inRates : ℤ → Bool
 inRates z = inside (pos 1) (pos fastest) z
 
--- "w and target within ±1,000,000; rate 1 to 2,000,000; set 0 to 3; u in lo..hi"
+-- "w and target within ±1,000,000; rate 1 to 2,000,000; set 0 to 3", since request 5 0 to 15, "u in lo..hi"
 abbrev pub placesOk : Loop → Bool
 placesOk l =
     inReach (l .w) && inReach (l .target) && inRates (l .rate) && ltb (l .set) sets

@@ -1,6 +1,6 @@
 -- 01, "The bench log": "The rows marked * are shown of the definitions by a single statement over one list."
 use mathlib.Core.Path.{_≡_, refl}
-use Rattle.settings.specs.Table.{rows}
+use Rattle.settings.specs.Table.{rowsOf}
 use Rattle.settings.specs.Settings.{inTable}
 use Rattle.pid.specs.Units.{rounded}
 use Rattle.settings.specs.SettingsC.{settingsC}
@@ -13,5 +13,5 @@ use Rattle.delivery.specs.Bench.{log, played, expected}
 
 -- every row of the log, delivered from its start, shows what the log says: code, u, y, I, w and pending
 pub bench-log : played (newOf (freshOf settingsC)) log ≡ expected log
-unfolding rounded rows inTable valid lesser greater limited ramped filtered derivative sensedOf clamped backCalculated integrated actedOf sampleOf stepOf refusalOf isLast foundBy servedOf deliveredOf log played expected
+unfolding rounded rowsOf inTable valid lesser greater limited ramped filtered derivative sensedOf clamped backCalculated integrated actedOf sampleOf stepOf refusalOf isLast foundBy servedOf deliveredOf log played expected
 bench-log = refl

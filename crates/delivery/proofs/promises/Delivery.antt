@@ -12,7 +12,7 @@ use lib.IntN.{pos}
 use Rattle.whole.specs.Numbers.{inside}
 use Rattle.whole.proofs.Truth.{never, both, and, by-test, cond-no}
 use Rattle.settings.specs.declared.Settings.{Settings}
-use Rattle.settings.specs.Table.{rows}
+use Rattle.settings.specs.Table.{rowsOf}
 use Rattle.settings.specs.Settings.{inTable}
 use Rattle.command.specs.declared.Command.{Command}
 use Rattle.pid.specs.Units.{fine}
@@ -105,5 +105,5 @@ end-state s ds v = end-from s v ds
 
 -- a record that keeps the state rules and is never reached: automatic, with nothing kept
 pub never-reached : validOf (newOf (atLimit 0 (fine 900 0))) ≡ true
-unfolding valid inTable rows
+unfolding valid inTable rowsOf
 never-reached = refl

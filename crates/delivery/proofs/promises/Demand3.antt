@@ -7,7 +7,7 @@ use native.Mathlib.Nat.{zero-add}
 use lib.IntN.{pos, _+ℤ_}
 use lib.ListN.{length, take}
 use Rattle.settings.specs.declared.Settings.{Settings}
-use Rattle.settings.specs.Table.{rows}
+use Rattle.settings.specs.Table.{rowsOf}
 use Rattle.settings.specs.Settings.{inTable}
 use Rattle.command.specs.declared.Command.{Command}
 use Rattle.command.specs.declared.Command.the-variants.{Sample, Automatic, Target, Set}
@@ -61,7 +61,7 @@ exact a b = (same-equal a b, λ e. subst (λ (x : Command). same a x ≡ true) e
 
 -- settings C are accepted
 pub accepted-C : madeOf settingsC .code ≡ 0
-unfolding Loop·madeOf inTable rows
+unfolding Loop·madeOf inTable rowsOf
 accepted-C = refl
 
 -- of the bench log's fourteen deliveries the walk keeps ten: not the repeat, the reused number, the gap and the refused put

@@ -10,7 +10,7 @@ use lib.IntN.{ℤ, pos}
 use lib.ListN.{length, drop, getD}
 use Rattle.whole.specs.Numbers.{inside}
 use Rattle.whole.proofs.Truth.{both}
-use Rattle.settings.specs.Table.{rows}
+use Rattle.settings.specs.Table.{rowsOf}
 use Rattle.settings.specs.Settings.{inTable}
 use Rattle.command.specs.declared.Command.the-variants.{Sample}
 use Rattle.settings.specs.SettingsC.{settingsC}
@@ -144,5 +144,5 @@ integral-within s first samples out v =
 
 -- a replay that is not refused
 pub taken-C : replayRefusal (newOf (freshOf settingsC)) 1 (pos 480 ∷ []) 1 ≡ 0
-unfolding replayRefusal firstBad valid inTable rows
+unfolding replayRefusal firstBad valid inTable rowsOf
 taken-C = refl

@@ -6,8 +6,8 @@ use mathlib.Core.List.{List, [], _∷_, _++_, map}
 use lib.ListN.{take}
 use lib.IntN.{ℤ, pos, negsuc, negℤ, _-ℤ_, _*ℤ_}
 use Rattle.settings.specs.declared.Settings.{Settings}
-use Rattle.settings.specs.Table.{rows}
-use Rattle.settings.specs.Settings.{inTable}
+use Rattle.settings.specs.Table.{shortSets, rowsOf}
+use Rattle.settings.specs.Settings.{filled, inTable}
 use Rattle.settings.specs.SettingsC.{gainSet}
 use Rattle.command.specs.declared.Command.{Command}
 use Rattle.command.specs.declared.Command.the-variants.{Sample, Put, Automatic, Set}
@@ -30,9 +30,10 @@ use Rattle.mirror.proofs.Held.{least-turned}
 
 -- ---- the oven and its mirror images
 
--- set 0 filters by the least alpha; set 1 takes halves in the filter, in D and by kt; set 2 has kp = 1/2 and nothing else
+-- set 0 filters by the least alpha; set 1 takes halves in the filter, in D and by kt; set 2 has kp = 1/2 and nothing else; sets
+-- 4 to 15 are set 0
 abbrev like : ℤ → ℤ → ℤ → ℤ → ℤ → Settings
-like action lo hi out sp = record {
+like action lo hi out sp = filled shortSets (record {
   action = action;
   lo = lo;
   hi = hi;
@@ -45,7 +46,7 @@ like action lo hi out sp = record {
       ∷ gainSet 32768 0 0 65536 0
       ∷ gainSet 0 0 0 65536 0
       ∷ [];
-}
+})
 
 abbrev oven : Settings
 oven = like (pos 0) (pos 0) (pos 1000) (pos 100) (pos 500)
@@ -59,7 +60,7 @@ pub cold-oven : flipSettings ofTemperatures oven ≡ like (pos 0) (negℤ (pos 1
 cold-oven = refl
 
 pub accepted : (madeOf oven .code ≡ 0) × (madeOf (flipSettings ofAction oven) .code ≡ 0) × (madeOf (flipSettings ofTemperatures oven) .code ≡ 0)
-unfolding Loop·madeOf inTable rows
+unfolding Loop·madeOf inTable rowsOf
 accepted = (refl, refl, refl)
 
 -- ---- what a sample rounds
@@ -182,7 +183,7 @@ pub mirrored :
       played = negℤ (pos 1000) ∷ negℤ (pos 999) ∷ negℤ (pos 7) ∷ [];
       replayed = negℤ (pos 1000) ∷ negℤ (pos 999) ∷ negℤ (pos 7) ∷ [];
     })
-unfolding Loop·madeOf rounded rows inTable valid lesser greater limited ramped filtered derivative sensedOf clamped backCalculated integrated actedOf sampleOf stepOf refusalOf lawOf isLast foundBy servedOf deliveredOf after each firstBad playRefusal wroteOf numbered replayRefusal writtenOf
+unfolding Loop·madeOf rounded rowsOf inTable valid lesser greater limited ramped filtered derivative sensedOf clamped backCalculated integrated actedOf sampleOf stepOf refusalOf lawOf isLast foundBy servedOf deliveredOf after each firstBad playRefusal wroteOf numbered replayRefusal writtenOf
 mirrored = (refl, refl, refl)
 
 -- ---- "no value being the least of its type"

@@ -17,7 +17,7 @@ use Rattle.pid.specs.declared.sample.Fixed.{Fixed}
 use Rattle.pid.specs.declared.sample.Moving.{Moving}
 use Rattle.pid.specs.declared.sample.Sensed.{Sensed}
 use Rattle.pid.specs.Units.{F, part, product}
-use Rattle.settings.specs.Table.{reach, rows}
+use Rattle.settings.specs.Table.{reach, rowsOf}
 use Rattle.settings.specs.Settings.{blankSettings, settingsRefusal, inTable, ordered}
 use Rattle.pid.specs.Record.{freshOf, blankLoop, madeOf, inReach, inB, valid}
 use Rattle.pid.specs.Sample.{sensedOf, shareOf, vOf, limitedV}
@@ -66,7 +66,7 @@ made-valid s =
 
 -- "The blank breaks the state rules (lo is not below hi)."
 pub blank-broken : valid blankLoop ≡ false
-unfolding valid blankLoop blankSettings inTable rows
+unfolding valid blankLoop blankSettings inTable rowsOf
 blank-broken = refl
 
 -- ---- "All arithmetic fits in 64 bits": "Largest P, D and g: 8,388,608,000,000 each, so every product stays below

@@ -4,7 +4,7 @@ use mathlib.Core.Path.{_≡_, refl, ap, _∙_}
 use mathlib.Core.Bool.{false}
 use mathlib.Core.List.{List, [], _∷_, _++_}
 use Rattle.whole.specs.Words.{bytes}
-use Rattle.settings.specs.Table.{rows}
+use Rattle.settings.specs.Table.{rowsOf}
 use Rattle.settings.specs.Settings.{inTable}
 use Rattle.pid.specs.Units.{rounded}
 use Rattle.pid.specs.Record.{valid, madeOf}
@@ -67,5 +67,5 @@ by-reading [] = refl
 by-reading (c ∷ cs) = ap (λ (os : List (List ℕ)). outputOf false textC (c .file) ∷ os) (by-reading cs)
 
 pub examples : played cases ≡ outputs cases
-unfolding rows inTable rounded valid madeOf lesser greater limited ramped filtered derivative sensedOf clamped backCalculated integrated actedOf sampleOf stepOf refusalOf isLast foundBy servedOf deliveredOf isSize hasMinus unsigned sizeOf isDecimal numberOf shown refusedLine keeping byAnswer bySample sampleLine judging byteOf finishing firstLoop begunBy playedBy three malformed range empty unended outputs cases
+unfolding rowsOf inTable rounded valid madeOf lesser greater limited ramped filtered derivative sensedOf clamped backCalculated integrated actedOf sampleOf stepOf refusalOf isLast foundBy servedOf deliveredOf isSize hasMinus unsigned sizeOf isDecimal numberOf shown refusedLine keeping byAnswer bySample sampleLine judging byteOf finishing firstLoop begunBy playedBy three malformed range empty unended outputs cases
 examples = by-reading cases ∙ ap (λ (d : Reading). playedBy d cases) c-read ∙ refl
