@@ -2,9 +2,9 @@
 //! whose outputs show a half at each place that 01 rounds.
 
 use crate::law::Loop;
-use crate::settings::{GainSet, Settings};
+use crate::settings::{GainSet, Settings, SETS};
 
-/// "Settings C, whole".
+/// "Settings C, whole": with request 5 it is a text of the short form.
 pub const C: &str = "\
 action=0
 lo=0
@@ -34,23 +34,14 @@ alpha3=65536
 kt3=0
 ";
 
-/// Settings C as a record.
+/// Settings C as a record, "with sets 4 to 15 equal to set 0".
 pub fn settings() -> Settings {
     let set = |kp, ki, kd, alpha, kt| GainSet { kp, ki, kd, alpha, kt };
-    Settings {
-        action: 0,
-        lo: 0,
-        hi: 1_000,
-        out: 100,
-        sp: 500,
-        rate: 50,
-        sets: [
-            set(65_536, 16_384, 0, 65_536, 0),
-            set(131_072, 16_384, 65_536, 32_768, 0),
-            set(65_536, 16_384, 0, 65_536, 32_768),
-            set(32_768, 0, 0, 65_536, 0),
-        ],
-    }
+    let mut sets = [set(65_536, 16_384, 0, 65_536, 0); SETS];
+    sets[1] = set(131_072, 16_384, 65_536, 32_768, 0);
+    sets[2] = set(65_536, 16_384, 0, 65_536, 32_768);
+    sets[3] = set(32_768, 0, 0, 65_536, 0);
+    Settings { action: 0, lo: 0, hi: 1_000, out: 100, sp: 500, rate: 50, sets }
 }
 
 /// "A fresh loop from C".
@@ -110,5 +101,5 @@ fn half_in_the_share() -> HalfOven {
 }
 
 fn half_settings(out: i32, gains: GainSet) -> Settings {
-    Settings { action: 0, lo: -10, hi: 10, out, sp: 0, rate: 1, sets: [gains; 4] }
+    Settings { action: 0, lo: -10, hi: 10, out, sp: 0, rate: 1, sets: [gains; SETS] }
 }

@@ -1,5 +1,5 @@
-//! Random and hostile inputs for the tests: settings, their text, loop records, deliveries and
-//! sample files.
+//! Random and hostile inputs for the tests: settings, their text in either form, loop records,
+//! deliveries and sample files.
 //!
 //! What is drawn depends on the stream of the [`Rng`] alone, so a seed names an input.
 
@@ -7,11 +7,13 @@ use crate::delivery::{deliver, Delivery};
 use crate::journal::delivery_line;
 use crate::law::{Command, Loop, Mode};
 use crate::rng::Rng;
-use crate::settings::{GainSet, Row, Settings, ROWS};
+use crate::settings::{places, GainSet, Row, Settings, LINES, ROWS, SETS};
+use crate::text::{lines_of, SHORT_LINES, SHORT_SETS};
 
 const LEAST_PV: i32 = -1_000_000;
 const MOST_PV: i32 = 1_000_000;
 const MOST_RATE: i32 = 2_000_000;
+const MOST_SET: i32 = *Loop::SETS.end();
 
 /// A number in `least..=most`, often at an end, beside one, or near zero.
 pub fn within(rng: &mut Rng, least: i64, most: i64) -> i64 {
@@ -52,17 +54,26 @@ fn around32(rng: &mut Rng, least: i32, most: i32) -> i32 {
 }
 
 /// Valid settings: a third of them at the ends of the ranges, a third of a loop that moves within
-/// its limits, a third of one whose roundings land on halves.
+/// its limits, a third of one whose roundings land on halves. One time in two they have a text of
+/// the short form, too.
 pub fn settings(rng: &mut Rng) -> Settings {
-    match rng.below(3) {
+    let mut settings = match rng.below(3) {
         0 => extreme_settings(rng),
         1 => lively_settings(rng),
         _ => halving_settings(rng),
+    };
+    if rng.one_in(2) {
+        let first = settings.sets[0];
+        settings.sets[SHORT_SETS..].fill(first);
     }
+    settings
 }
 
 fn extreme_settings(rng: &mut Rng) -> Settings {
-    let values = ROWS.map(|row| within32(rng, row.least, row.most));
+    let mut values = [0; LINES];
+    for (value, place) in values.iter_mut().zip(places()) {
+        *value = within32(rng, place.row.least, place.row.most);
+    }
     let mut settings = Settings::from_values(&values);
     settings.lo = within32(rng, LEAST_PV, MOST_PV - 1);
     settings.hi = within32(rng, settings.lo + 1, MOST_PV);
@@ -96,7 +107,7 @@ fn settings_within(
         out: rng.between(i64::from(lo), i64::from(hi)) as i32,
         sp: rng.between(-sp, sp) as i32,
         rate: rng.between(1, rate) as i32,
-        sets: [(); 4].map(|()| gains(rng)),
+        sets: [(); SETS].map(|()| gains(rng)),
     }
 }
 
@@ -112,7 +123,7 @@ fn lively_gains(rng: &mut Rng) -> GainSet {
 
 /// Limits on either side of zero or about it, near enough to be passed now and then.
 fn halving_settings(rng: &mut Rng) -> Settings {
-    let lo = rng.between(-3_000, 1_000) as i32;
+    let lo = rng.between(-2_000, 1_000) as i32;
     let hi = lo + rng.between(1, 2_000) as i32;
     settings_within(rng, [lo, hi], 500, 50, halving_gains)
 }
@@ -134,14 +145,46 @@ fn halving_gains(rng: &mut Rng) -> GainSet {
 pub fn doubtful_settings(rng: &mut Rng) -> Settings {
     let mut values = settings(rng).values();
     for _ in 0..rng.below(3) {
-        let place = rng.below(values.len());
-        let Row { least, most, .. } = ROWS[place];
+        let (place, Row { least, most, .. }) = any_place(rng);
         values[place] = around32(rng, least, most);
         if rng.one_in(3) {
             values[place] = outside32(rng, least, most);
         }
     }
     Settings::from_values(&values)
+}
+
+/// The place of a value and its row: each row of the table is as likely, and in it each set.
+fn any_place(rng: &mut Rng) -> (usize, Row) {
+    let row = rng.pick(&ROWS);
+    let of_the_row = (0..).zip(places()).filter(|(_, place)| place.row == row);
+    let choices: Vec<usize> = of_the_row.map(|(index, _)| index).collect();
+    (rng.pick(&choices), row)
+}
+
+/// A text of these settings: of the short form in half the cases where it says them whole, "with
+/// sets 4 to 15 equal to set 0".
+pub fn settings_text(rng: &mut Rng, settings: &Settings) -> Vec<u8> {
+    let like_the_first = |set: &GainSet| *set == settings.sets[0];
+    if settings.sets[SHORT_SETS..].iter().all(like_the_first) && rng.one_in(2) {
+        short_text(settings)
+    } else {
+        lines_of(settings).into_bytes()
+    }
+}
+
+/// The settings' text, or the front of it that is of the short form, whatever that leaves out.
+pub fn either_form(rng: &mut Rng, settings: &Settings) -> Vec<u8> {
+    if rng.one_in(2) {
+        short_text(settings)
+    } else {
+        lines_of(settings).into_bytes()
+    }
+}
+
+/// The settings' text so far as the short form goes.
+pub fn short_text(settings: &Settings) -> Vec<u8> {
+    pieces(lines_of(settings).as_bytes())[..SHORT_LINES].concat()
 }
 
 /// A record that keeps the state rules, though most of these are never reached.
@@ -154,7 +197,7 @@ pub fn record(rng: &mut Rng) -> Loop {
         settings,
         mode: if automatic { Mode::Automatic } else { Mode::Manual },
         pending: automatic && rng.one_in(3),
-        set: rng.below(4) as i32,
+        set: rng.below(SETS) as i32,
         w: within32(rng, LEAST_PV, MOST_PV),
         target: within32(rng, LEAST_PV, MOST_PV),
         rate: within32(rng, 1, MOST_RATE),
@@ -188,7 +231,7 @@ fn spoil(rng: &mut Rng, record: &mut Loop) {
         0 => record.settings = doubtful_settings(rng),
         1 => record.mode = Mode::Manual,
         2 => record.pending = !record.pending,
-        3 => record.set = outside32(rng, 0, 3),
+        3 => record.set = outside32(rng, 0, MOST_SET),
         4 => record.w = outside32(rng, LEAST_PV, MOST_PV),
         5 => record.target = outside32(rng, LEAST_PV, MOST_PV),
         6 => record.rate = outside32(rng, 1, MOST_RATE),
@@ -219,13 +262,22 @@ pub fn command(rng: &mut Rng, record: &Loop) -> Command {
         1 if record.mode == Mode::Manual => Command::Automatic,
         2 => Command::Hold,
         3 => Command::Put(around32(rng, limits.0, limits.1)),
-        4 | 5 => Command::Target {
+        4 => Command::Target {
             target: around32(rng, LEAST_PV, MOST_PV),
             rate: around32(rng, 1, MOST_RATE),
         },
-        6 => target_nearby(rng, record),
-        7 => Command::Set(around32(rng, 0, 3)),
+        5 | 6 => target_nearby(rng, record),
+        7 => Command::Set(set_number(rng, record)),
         _ => Command::Sample(temperature(rng, record)),
+    }
+}
+
+/// A number for a gain set: that of any, of the one in force, or of none.
+fn set_number(rng: &mut Rng, record: &Loop) -> i32 {
+    match rng.below(10) {
+        0 => outside32(rng, 0, MOST_SET),
+        1 | 2 => record.set,
+        _ => rng.below(SETS) as i32,
     }
 }
 
@@ -483,7 +535,7 @@ fn damage(rng: &mut Rng, bytes: &mut Vec<u8>) {
         return;
     }
     let place = rng.below(bytes.len());
-    match rng.below(9) {
+    match rng.below(11) {
         0 => bytes[place] = odd_byte(rng),
         1 => {
             bytes.remove(place);
@@ -493,6 +545,7 @@ fn damage(rng: &mut Rng, bytes: &mut Vec<u8>) {
         4 => swap_two_lines(rng, bytes),
         5 => bytes.truncate(place),
         6 => append(rng, bytes),
+        7 => cut_after_a_line(rng, bytes),
         _ => change_a_value(rng, bytes),
     }
 }
@@ -522,13 +575,20 @@ fn swap_two_lines(rng: &mut Rng, bytes: &mut Vec<u8>) {
     *bytes = lines.concat();
 }
 
+fn cut_after_a_line(rng: &mut Rng, bytes: &mut Vec<u8>) {
+    let lines = pieces(bytes);
+    let count = rng.below(lines.len() + 1);
+    *bytes = lines[..count].concat();
+}
+
 fn append(rng: &mut Rng, bytes: &mut Vec<u8>) {
     for _ in 0..1 + rng.below(4) {
         bytes.push(odd_byte(rng));
     }
 }
 
-/// Gives one `key=value` of a line another value, well formed or not.
+/// Gives one `key=value` of a line another value, well formed or not. The first lines, where lo, hi
+/// and out stand, have more than their share.
 fn change_a_value(rng: &mut Rng, bytes: &mut Vec<u8>) {
     const VALUES: [&[u8]; 22] = [
         b"0",
@@ -555,7 +615,8 @@ fn change_a_value(rng: &mut Rng, bytes: &mut Vec<u8>) {
         b"-",
     ];
     let mut lines = pieces(bytes);
-    let line = rng.below(lines.len());
+    let among = if rng.one_in(2) { lines.len() } else { lines.len().min(ROWS.len()) };
+    let line = rng.below(among);
     let signs: Vec<usize> = (0..lines[line].len()).filter(|&at| lines[line][at] == b'=').collect();
     if !signs.is_empty() {
         let start = rng.pick(&signs) + 1;

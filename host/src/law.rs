@@ -1,7 +1,7 @@
 //! 01, "What a loop remembers" and "The law, one command at a time".
 
 use crate::refusal::Refusal;
-use crate::settings::{GainSet, Settings};
+use crate::settings::{self, GainSet, Settings};
 use std::cmp::Ordering;
 use std::ops::RangeInclusive;
 
@@ -101,8 +101,8 @@ impl Loop {
     pub const TEMPERATURES: RangeInclusive<i32> = -1_000_000..=1_000_000;
     /// The range of the rate.
     pub const RATES: RangeInclusive<i32> = 1..=2_000_000;
-    /// The gain sets.
-    pub const SETS: RangeInclusive<i32> = 0..=3;
+    /// The gain sets. Request 5: "code 9 starts at 16", and negative numbers are no sets either.
+    pub const SETS: RangeInclusive<i32> = 0..=settings::SETS as i32 - 1;
 
     /// "every number zero, manual, every flag no, no last command. The blank breaks the state
     /// rules"
@@ -314,7 +314,7 @@ impl Loop {
         }
     }
 
-    /// The gain set in force, which the state rules keep within 0 to 3.
+    /// The gain set in force, which the state rules keep among those that there are.
     fn gains(&self) -> GainSet {
         self.settings.sets[self.set as usize]
     }

@@ -1,5 +1,6 @@
 //! A temperature loop in ordinary Rust, written from document 01 ("The exact rules and the build")
-//! and the requests of document 02 that have landed: request 3 ("Mirrored ovens disagree by one").
+//! and the requests of document 02 that have landed: request 3 ("Mirrored ovens disagree by one")
+//! and request 5 ("Sixteen gain sets").
 //!
 //! It is a second opinion: tests compare its answers, and the whole output of its two programs,
 //! with those of the proved ones. So it says the papers as plainly as it can, sentence by sentence,
@@ -18,6 +19,8 @@
 //! |---|---|
 //! | 3, halves away from zero | [`law::round`] |
 //! | 3, the two mirrors | [`mirror`] |
+//! | 5, the number of sets and the table | [`settings`] |
+//! | 5, the two forms of the text | [`text`] |
 //!
 //! [`rng`] and [`gen`] make the random and hostile inputs of the tests, which
 //! `cargo test --offline --release` runs; a random test that fails tells its seed. [`by_hand`]

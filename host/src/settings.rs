@@ -1,8 +1,26 @@
-//! 01, "Units": the settings, and the one table of their ranges.
+//! 01, "Units": the settings, with the sixteen gain sets of request 5, and the one table of their
+//! ranges.
 
 use crate::refusal::Refusal;
 
-/// One of the four gain sets.
+/// How many gain sets a loop has. Request 5: "Raise four to sixteen".
+pub const SETS: usize = 16;
+
+/// How many rows of the table stand once, before those of the gain sets.
+const ONCE: usize = 6;
+
+/// How many rows of the table stand in each gain set.
+const GAINS: usize = 5;
+
+/// How many lines a text has that names so many gain sets.
+pub const fn lines_with(sets: usize) -> usize {
+    ONCE + GAINS * sets
+}
+
+/// How many values the settings have: one for each line of the text.
+pub const LINES: usize = lines_with(SETS);
+
+/// One of the gain sets.
 #[derive(Debug, Clone, Copy, PartialEq, Eq, Default)]
 pub struct GainSet {
     /// Proportional gain times F.
@@ -32,15 +50,15 @@ pub struct Settings {
     pub sp: i32,
     /// "most the setpoint moves in one sample"
     pub rate: i32,
-    /// The gain sets, 0 to 3.
-    pub sets: [GainSet; 4],
+    /// The gain sets, from 0 on.
+    pub sets: [GainSet; SETS],
 }
 
-/// The range of one setting, under its key in the text.
+/// The range of one setting.
 #[derive(Debug, Clone, Copy, PartialEq, Eq)]
 pub struct Row {
-    /// The key, as the settings text spells it.
-    pub key: &'static str,
+    /// The letters of its key.
+    pub letters: &'static str,
     /// The least value.
     pub least: i32,
     /// The most.
@@ -54,76 +72,89 @@ impl Row {
     }
 }
 
-const fn row(key: &'static str, least: i32, most: i32) -> Row {
-    Row { key, least, most }
+const fn row(letters: &'static str, least: i32, most: i32) -> Row {
+    Row { letters, least, most }
 }
 
 /// "The ranges of the settings are one constant table of rows, which reader, writer and maker all
 /// consult."
 ///
-/// The rows stand in the order of the settings text. "For out, codes 11 and 15 use ±1,000,000; its
-/// place between lo and hi is code 16's matter."
-pub const ROWS: [Row; 26] = [
+/// The rows stand in the order of the settings text, those of a gain set last and once for all
+/// sets. "For out, codes 11 and 15 use ±1,000,000; its place between lo and hi is code 16's
+/// matter."
+pub const ROWS: [Row; ONCE + GAINS] = [
     row("action", 0, 1),
     row("lo", -1_000_000, 1_000_000),
     row("hi", -1_000_000, 1_000_000),
     row("out", -1_000_000, 1_000_000),
     row("sp", -1_000_000, 1_000_000),
     row("rate", 1, 2_000_000),
-    row("kp0", 0, 4_194_304),
-    row("ki0", 0, 4_194_304),
-    row("kd0", 0, 4_194_304),
-    row("alpha0", 1, 65_536),
-    row("kt0", 0, 65_536),
-    row("kp1", 0, 4_194_304),
-    row("ki1", 0, 4_194_304),
-    row("kd1", 0, 4_194_304),
-    row("alpha1", 1, 65_536),
-    row("kt1", 0, 65_536),
-    row("kp2", 0, 4_194_304),
-    row("ki2", 0, 4_194_304),
-    row("kd2", 0, 4_194_304),
-    row("alpha2", 1, 65_536),
-    row("kt2", 0, 65_536),
-    row("kp3", 0, 4_194_304),
-    row("ki3", 0, 4_194_304),
-    row("kd3", 0, 4_194_304),
-    row("alpha3", 1, 65_536),
-    row("kt3", 0, 65_536),
+    row("kp", 0, 4_194_304),
+    row("ki", 0, 4_194_304),
+    row("kd", 0, 4_194_304),
+    row("alpha", 1, 65_536),
+    row("kt", 0, 65_536),
 ];
 
+/// Where a value stands: in a row of the table, and in a gain set if the row is one of those.
+#[derive(Debug, Clone, Copy, PartialEq, Eq)]
+pub struct Place {
+    /// The row.
+    pub row: Row,
+    /// The number of the gain set.
+    pub set: Option<usize>,
+}
+
+impl Place {
+    /// The key as the text spells it: the letters, and after them the number of the gain set.
+    pub fn key(&self) -> String {
+        match self.set {
+            Some(k) => format!("{}{k}", self.row.letters),
+            None => self.row.letters.to_string(),
+        }
+    }
+}
+
+/// The place of every value, in the order of the text: "action, lo, hi, out, sp, rate, then kp0 ki0
+/// kd0 alpha0 kt0, then the same" for each other set.
+pub fn places() -> impl Iterator<Item = Place> {
+    let once = ROWS.into_iter().take(ONCE).map(|row| Place { row, set: None });
+    let gains = |k| ROWS.into_iter().skip(ONCE).map(move |row| Place { row, set: Some(k) });
+    once.chain((0..SETS).flat_map(gains))
+}
+
 impl Settings {
-    /// The values in the order of [`ROWS`].
-    pub fn values(&self) -> [i32; 26] {
-        let mut values = [0; 26];
-        values[..6].copy_from_slice(&[self.action, self.lo, self.hi, self.out, self.sp, self.rate]);
-        for (place, set) in values[6..].chunks_exact_mut(5).zip(&self.sets) {
+    /// The values in the order of [`places`].
+    pub fn values(&self) -> [i32; LINES] {
+        let mut values = [0; LINES];
+        let (once, gains) = values.split_at_mut(ONCE);
+        once.copy_from_slice(&[self.action, self.lo, self.hi, self.out, self.sp, self.rate]);
+        for (place, set) in gains.chunks_exact_mut(GAINS).zip(&self.sets) {
             place.copy_from_slice(&[set.kp, set.ki, set.kd, set.alpha, set.kt]);
         }
         values
     }
 
-    /// The settings that have these values, in the order of [`ROWS`].
-    pub fn from_values(values: &[i32; 26]) -> Settings {
-        let set = |k: usize| {
-            let first = 6 + 5 * k;
-            GainSet {
-                kp: values[first],
-                ki: values[first + 1],
-                kd: values[first + 2],
-                alpha: values[first + 3],
-                kt: values[first + 4],
-            }
+    /// The settings that have these values, in the order of [`places`].
+    pub fn from_values(values: &[i32; LINES]) -> Settings {
+        let (once, gains) = values.split_at(ONCE);
+        let mut settings = Settings {
+            action: once[0],
+            lo: once[1],
+            hi: once[2],
+            out: once[3],
+            sp: once[4],
+            rate: once[5],
+            ..Settings::default()
         };
-        Settings {
-            action: values[0],
-            lo: values[1],
-            hi: values[2],
-            out: values[3],
-            sp: values[4],
-            rate: values[5],
-            sets: [set(0), set(1), set(2), set(3)],
+        for (set, gains) in settings.sets.iter_mut().zip(gains.chunks_exact(GAINS)) {
+            set.kp = gains[0];
+            set.ki = gains[1];
+            set.kd = gains[2];
+            set.alpha = gains[3];
+            set.kt = gains[4];
         }
+        settings
     }
 
     /// "Making a loop from settings tests 11, then 16."
@@ -139,7 +170,7 @@ impl Settings {
 
     /// Every value lies in its own row's range.
     fn within_ranges(&self) -> bool {
-        ROWS.iter().zip(self.values()).all(|(row, value)| row.allows(value))
+        places().zip(self.values()).all(|(place, value)| place.row.allows(value))
     }
 
     /// Code 16 is "lo not below hi, or out outside lo..hi".

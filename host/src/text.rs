@@ -1,8 +1,15 @@
-//! 01, "Settings text": the reader and the writer.
+//! 01, "Settings text", in the two forms of request 5: the reader and the writer.
 
 use crate::decimal;
 use crate::refusal::{code, Refusal};
-use crate::settings::{Row, Settings, ROWS};
+use crate::settings::{lines_with, places, Place, Settings, LINES};
+
+/// How many gain sets a text of 01 names: with request 5 it is the short form, which "is still
+/// read".
+pub const SHORT_SETS: usize = 4;
+
+/// How many lines the short form has.
+pub const SHORT_LINES: usize = lines_with(SHORT_SETS);
 
 /// What the reader answers.
 #[derive(Debug, Clone, Copy, PartialEq, Eq)]
@@ -35,25 +42,43 @@ pub fn read(text: &[u8]) -> Reading {
 }
 
 /// "Lines count from 1 and are tested in order, 14 before 15 in each. [..] Then 17, then 16."
+///
+/// "26 or 86 lines are good, nothing between": any byte after the short form "is tested as line 27
+/// is, 14 before 15, and on to line 86; 17 comes only after the last line".
 fn parse(text: &[u8]) -> Result<Settings, (Refusal, usize)> {
-    let mut lines = text.split_inclusive(|&byte| byte == b'\n');
-    let mut values = [0; 26];
-    for (index, row) in ROWS.iter().enumerate() {
+    let mut lines = text.split_inclusive(|&byte| byte == b'\n').peekable();
+    let mut values = [0; LINES];
+    for (index, place) in places().enumerate() {
+        if index == SHORT_LINES && lines.peek().is_none() {
+            return accepted(short(&values));
+        }
         let line = lines.next().unwrap_or(b"");
-        values[index] = value(line, row).map_err(|refusal| (refusal, index + 1))?;
+        values[index] = value(line, &place).map_err(|refusal| (refusal, index + 1))?;
     }
     if lines.next().is_some() {
         return Err((Refusal::BytesAfter, 0));
     }
-    let settings = Settings::from_values(&values);
+    accepted(Settings::from_values(&values))
+}
+
+/// "A text that ends after 26 lines is still read, with sets 4 to 15 equal to set 0."
+fn short(values: &[i32; LINES]) -> Settings {
+    let mut settings = Settings::from_values(values);
+    let [first, ..] = settings.sets;
+    settings.sets[SHORT_SETS..].fill(first);
+    settings
+}
+
+/// The settings of a text whose every line is good, if their limits are in order.
+fn accepted(settings: Settings) -> Result<Settings, (Refusal, usize)> {
     settings.check().map_err(|refusal| (refusal, 0))?;
     Ok(settings)
 }
 
 /// The value of a line that comes with its line feed, if it has one.
-fn value(line: &[u8], row: &Row) -> Result<i32, Refusal> {
-    let value = well_formed(line, row.key).ok_or(Refusal::LineForm)?;
-    if row.allows(value) {
+fn value(line: &[u8], place: &Place) -> Result<i32, Refusal> {
+    let value = well_formed(line, &place.key()).ok_or(Refusal::LineForm)?;
+    if place.row.allows(value) {
         Ok(value)
     } else {
         Err(Refusal::LineValue)
@@ -82,8 +107,8 @@ fn fill(settings: &Settings, buffer: &mut [u8]) -> Result<usize, Refusal> {
     Ok(text.len())
 }
 
-/// The 26 lines of any settings record, in range or not.
+/// The lines of any settings record, in range or not. "Writing always gives 86 lines".
 pub fn lines_of(settings: &Settings) -> String {
-    let line = |(row, value): (&Row, i32)| format!("{}={value}\n", row.key);
-    ROWS.iter().zip(settings.values()).map(line).collect()
+    let line = |(place, value): (Place, i32)| format!("{}={value}\n", place.key());
+    places().zip(settings.values()).map(line).collect()
 }

@@ -42,7 +42,18 @@ const LOG: [(u32, Command, i32, i32, &[After]); 14] = [
 
 #[test]
 fn every_row_is_answered_as_logged() {
-    let mut record = example::fresh();
+    answered_as_logged(example::fresh());
+}
+
+/// "with sets 4 to 15 equal to set 0": each may stand in its place.
+#[test]
+fn every_row_is_answered_as_logged_from_each_set_that_is_equal_to_set_0() {
+    for set in 4..16 {
+        answered_as_logged(Loop { set, ..example::fresh() });
+    }
+}
+
+fn answered_as_logged(mut record: Loop) {
     let mut last = 0;
     for (number, command, code, output, after) in LOG {
         let before = record;
@@ -100,6 +111,8 @@ fn the_cases_at_the_upper_limit() {
         (0, fine(890.0), fine(900.0)),
         (0, fine(950.0), fine(950.0)),
         (2, fine(900.0), fine(912.5)),
+        (4, fine(890.0), fine(900.0)),
+        (15, fine(890.0), fine(900.0)),
     ];
     for (set, integral, expected) in cases {
         let mut record = at_the_upper_limit(set, integral);

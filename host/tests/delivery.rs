@@ -54,7 +54,10 @@ fn a_refused_number_stays_free() {
     let mut record = two_kept();
     assert_eq!(unkept(&record, 3, Sample(1_000_001)), answer(4, 70, 2));
     assert_eq!(unkept(&record, 3, Put(1_001)), answer(5, 70, 2));
-    assert_eq!(deliver(&mut record, 3, Sample(480)), answer(0, 70, 3));
+    assert_eq!(unkept(&record, 3, Set(16)), answer(9, 70, 2));
+    assert_eq!(unkept(&record, 3, Set(-1)), answer(9, 70, 2));
+    assert_eq!(deliver(&mut record, 3, Set(15)), answer(0, 70, 3));
+    assert_eq!(deliver(&mut record, 4, Sample(480)), answer(0, 70, 4));
 }
 
 #[test]
@@ -70,6 +73,7 @@ fn a_repeat_needs_every_value() {
     assert_eq!(unkept(&record, 4, Set(2)).code, 0);
     assert_eq!(unkept(&record, 4, Set(1)).code, 2);
     assert_eq!(unkept(&record, 4, Put(2)).code, 2);
+    assert_eq!(unkept(&record, 4, Set(16)).code, 2);
     assert_eq!(deliver(&mut record, 5, Hold), answer(0, 70, 5));
     assert_eq!(unkept(&record, 5, Hold).code, 0);
     assert_eq!(unkept(&record, 5, Automatic).code, 2);
@@ -89,7 +93,7 @@ fn commands_of_no_effect_are_kept() {
 /// law would refuse it, in an unreached record.
 #[test]
 fn a_repeat_is_served_whatever_its_content() {
-    for command in [Sample(i32::MIN), Put(5_000), Set(9), Command::Target { target: 0, rate: 0 }] {
+    for command in [Sample(i32::MIN), Put(5_000), Set(16), Command::Target { target: 0, rate: 0 }] {
         let record = Loop { last: 9, last_command: Some(command), ..example::fresh() };
         assert_eq!(unkept(&record, 9, command), answer(0, 100, 9));
         assert_ne!(unkept(&record, 10, command).code, 0);

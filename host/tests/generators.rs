@@ -5,7 +5,8 @@ use host::delivery::deliver;
 use host::gen;
 use host::law::{Command, Loop, Mode};
 use host::rng::{for_each_seed, Rng};
-use host::settings::ROWS;
+use host::settings::places;
+use host::text;
 
 #[test]
 fn a_seed_names_its_stream() {
@@ -22,17 +23,17 @@ fn a_seed_names_its_stream() {
 }
 
 /// The ends of each range; since lo < hi, lo never has its most and hi never its least.
-fn ends() -> [(i32, i32); 26] {
-    ROWS.map(|row| match row.key {
-        "lo" => (row.least, row.most - 1),
-        "hi" => (row.least + 1, row.most),
-        _ => (row.least, row.most),
+fn ends() -> impl Iterator<Item = (i32, i32)> {
+    places().map(|place| match place.row.letters {
+        "lo" => (place.row.least, place.row.most - 1),
+        "hi" => (place.row.least + 1, place.row.most),
+        _ => (place.row.least, place.row.most),
     })
 }
 
 #[test]
 fn settings_are_valid_and_reach_both_ends_of_every_range() {
-    let mut reached = [(0, 0); 26];
+    let mut reached = [(0, 0); 86];
     let mut forms = [0; 2];
     for_each_seed(2_000, |rng| {
         let settings = gen::settings(rng);
@@ -44,10 +45,61 @@ fn settings_are_valid_and_reach_both_ends_of_every_range() {
         }
         forms[usize::from(settings.sets[0].kt == 0)] += 1;
     });
-    for (row, count) in ROWS.iter().zip(reached) {
-        assert!(count.0 > 20 && count.1 > 20, "{}: {count:?}", row.key);
+    for (place, count) in places().zip(reached) {
+        assert!(count.0 > 20 && count.1 > 20, "{}: {count:?}", place.key());
     }
     assert!(forms[0] > 500 && forms[1] > 500, "back-calculation and clamping {forms:?}");
+}
+
+/// Texts of 26 and of 86 lines, and of settings whose sets 4 to 15 are those of set 0 both.
+#[test]
+fn texts_are_of_either_form_and_say_their_settings() {
+    let (mut forms, mut fronts) = ([0; 4], [0; 2]);
+    for_each_seed(2_000, |rng| {
+        let settings = gen::settings(rng);
+        let count = |text: &[u8]| text.iter().filter(|&&byte| byte == b'\n').count();
+        let alike = settings.sets[4..].iter().all(|set| *set == settings.sets[0]);
+        let said = gen::settings_text(rng, &settings);
+        assert!(count(&said) == 86 || count(&said) == 26 && alike, "{settings:?}");
+        assert_eq!(text::read(&said).settings, settings);
+        forms[2 * usize::from(alike) + usize::from(count(&said) == 26)] += 1;
+        let front = gen::either_form(rng, &settings);
+        assert!(text::lines_of(&settings).as_bytes().starts_with(&front));
+        assert!(count(&front) == 86 || count(&front) == 26);
+        fronts[usize::from(count(&front) == 26)] += 1;
+    });
+    assert!(forms[0] > 500 && forms[2] > 300 && forms[3] > 300, "{forms:?}");
+    assert!(fronts[0] > 500 && fronts[1] > 500, "{fronts:?}");
+}
+
+/// Ordinary samples in each of the sixteen sets, and commands for each set and past both ends.
+#[test]
+fn deliveries_reach_every_set_and_numbers_beyond() {
+    let (mut samples, mut chosen) = ([0; 16], [0; 16]);
+    let mut beyond = [0; 4];
+    for_each_seed(300, |rng| {
+        let settings = gen::settings(rng);
+        let mut record = Loop::make(&settings).1;
+        for next in gen::deliveries(rng, &settings, 200) {
+            let before = record;
+            let answer = deliver(&mut record, next.number, next.command);
+            let kept = record.last != before.last;
+            match next.command {
+                Command::Sample(_) if kept && before.mode == Mode::Automatic => {
+                    samples[before.set as usize] += i32::from(!before.pending);
+                }
+                Command::Set(k) if kept => chosen[k as usize] += 1,
+                Command::Set(k) if answer.code == 9 => {
+                    let numbers = [k == -1, k == 16, k < -1, k > 16];
+                    beyond[numbers.iter().position(|&is| is).expect("no such set")] += 1;
+                }
+                _ => {}
+            }
+        }
+    });
+    assert!(samples.iter().all(|&count| count > 100), "ordinary samples {samples:?}");
+    assert!(chosen.iter().all(|&count| count > 30), "kept commands {chosen:?}");
+    assert!(beyond.iter().all(|&count| count > 5), "-1, 16, below, above {beyond:?}");
 }
 
 #[test]

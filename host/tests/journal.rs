@@ -1,15 +1,22 @@
 //! The journal program: one journal line for each delivery.
 
+// What else the papers say of the settings text is the matter of other tests.
+#[allow(dead_code)]
+mod papers;
+
 use host::delivery::{deliver, Delivery};
 use host::example::C;
 use host::gen;
 use host::journal::{delivery_line, parse, run};
 use host::law::{Command, Loop};
 use host::rng::for_each_seed;
-use host::text::lines_of;
+use papers::{both_forms, edges, full_c};
 
+/// The output with settings C, which is the same with each of its two texts.
 fn with_c(deliveries: &str) -> String {
-    run(C.as_bytes(), deliveries.as_bytes())
+    let [one, other] = both_forms().map(|(_, text)| run(text.as_bytes(), deliveries.as_bytes()));
+    assert_eq!(one, other);
+    one
 }
 
 /// The bench log of 01 as a journal.
@@ -55,8 +62,10 @@ number=1 command=sample value=-2147483648 second=0 code=4 output=100 last=0
 number=1 command=put value=1001 second=0 code=5 output=100 last=0
 number=1 command=target value=1000001 second=0 code=7 output=100 last=0
 number=1 command=target value=1 second=-2147483648 code=8 output=100 last=0
-number=1 command=set value=4 second=0 code=9 output=100 last=0
-number=1 command=put value=0 second=0 code=0 output=0 last=1
+number=1 command=set value=16 second=0 code=9 output=100 last=0
+number=1 command=set value=-1 second=0 code=9 output=100 last=0
+number=1 command=set value=15 second=0 code=0 output=100 last=1
+number=2 command=put value=0 second=0 code=0 output=0 last=2
 ";
     let delivered = |line: &str| format!("{}\n", &line[..line.find(" code=").unwrap()]);
     let deliveries: String = journal.lines().map(delivered).collect();
@@ -84,7 +93,13 @@ fn refused_settings_end_the_run() {
     assert_eq!(refused(String::new()), "refused 14 1\n");
     assert_eq!(refused(C.replace("lo=0\n", "lo=-1000001\n")), "refused 15 2\n");
     assert_eq!(refused(C.replace("out=100\n", "out=1001\n")), "refused 16 0\n");
-    assert_eq!(refused(format!("{C}\n")), "refused 17 0\n");
+    assert_eq!(refused(format!("{C}\n")), "refused 14 27\n");
+    assert_eq!(refused(format!("{}\n", full_c())), "refused 17 0\n");
+    for (text, code, line) in edges() {
+        let written = run(text.as_bytes(), b"");
+        let expected = if code == 0 { String::new() } else { format!("refused {code} {line}\n") };
+        assert_eq!(written, expected, "{}", text.escape_debug());
+    }
 }
 
 #[test]
@@ -132,7 +147,7 @@ fn random_lists_are_answered_as_single_deliveries() {
             let line = delivery_line(delivery);
             expected += &format!("{line} code={code} output={output} last={last}\n");
         }
-        let text = lines_of(&settings).into_bytes();
+        let text = gen::settings_text(rng, &settings);
         assert_eq!(run(&text, &gen::deliveries_file(&list)), expected);
 
         let spoiled = run(&text, &gen::spoiled_deliveries_file(rng, &list));

@@ -1,11 +1,15 @@
 //! The proved program `journal` against the peer: every byte that it writes.
 
 mod common;
+// What else the papers say of the settings text is the matter of other tests.
+#[allow(dead_code)]
+mod papers;
 
 use common::{across_a_cut, for_each_seed, odd_lines, same, words_of_digits, Program};
 use host::delivery::Delivery;
 use host::law::Command;
-use host::{example, gen, journal, text};
+use host::{example, gen, journal};
+use papers::{both_forms, edges};
 
 fn journal_agrees(program: &Program, settings: &[u8], deliveries: &[u8]) {
     same("journal", &program.run(settings, deliveries), &journal::run(settings, deliveries));
@@ -51,17 +55,61 @@ fn the_bench_log() {
     assert_eq!(answers, expected);
 }
 
+/// "with sets 4 to 15 equal to set 0": in each the samples 480, 480 and 478 get 01's 100, 105, 113.
+#[test]
+fn the_sets_that_26_lines_leave_out_are_set_0() {
+    let program = Program::new("journal");
+    let samples = [480, 480, 478].map(Command::Sample);
+    for (set, (_, settings)) in (4..16).flat_map(|set| both_forms().map(|form| (set, form))) {
+        let commands = [Command::Automatic, Command::Set(set)].into_iter().chain(samples);
+        let numbered = (1..).zip(commands);
+        let list: Vec<Delivery> =
+            numbered.map(|(number, command)| Delivery { number, command }).collect();
+        let written = program.run(settings.as_bytes(), &gen::deliveries_file(&list));
+        let answer = |(delivery, output): (&Delivery, i32)| {
+            let (line, number) = (journal::delivery_line(delivery), delivery.number);
+            format!("{line} code=0 output={output} last={number}\n")
+        };
+        let expected: String = list.iter().zip([100, 100, 100, 105, 113]).map(answer).collect();
+        same("journal", &written, &expected);
+    }
+}
+
+/// Request 5's two forms: what the papers say of each edge, and not what the peer says.
+#[test]
+fn settings_at_an_edge_are_taken_or_refused_as_the_papers_say() {
+    let program = Program::new("journal");
+    for (text, code, line) in edges() {
+        let refused = format!("refused {code} {line}\n");
+        let expected = if code == 0 { "" } else { &refused };
+        same("journal", &program.run(text.as_bytes(), b""), expected);
+    }
+}
+
+/// "code 9 starts at 16"; "Negative set numbers stay 9."
+#[test]
+fn there_are_sixteen_sets() {
+    let program = Program::new("journal");
+    let set = |k: i32| format!("number=1 command=set value={k} second=0");
+    for (_, settings) in both_forms() {
+        let answered = |k| program.run(settings.as_bytes(), (set(k) + "\n").as_bytes());
+        for k in 0..16 {
+            same("journal", &answered(k), &(set(k) + " code=0 output=100 last=1\n"));
+        }
+        for k in [16, 17, 256, i32::MAX, -1, -16, i32::MIN] {
+            same("journal", &answered(k), &(set(k) + " code=9 output=100 last=0\n"));
+        }
+    }
+}
+
 #[test]
 fn random_deliveries_are_answered_alike() {
     let program = Program::new("journal");
     for_each_seed(500, |rng| {
         let settings = gen::settings(rng);
         let deliveries = gen::deliveries(rng, &settings, 420);
-        journal_agrees(
-            &program,
-            text::lines_of(&settings).as_bytes(),
-            &gen::deliveries_file(&deliveries),
-        );
+        let text = gen::settings_text(rng, &settings);
+        journal_agrees(&program, &text, &gen::deliveries_file(&deliveries));
     });
 }
 
@@ -71,11 +119,8 @@ fn spoiled_deliveries_are_answered_alike() {
     for_each_seed(200, |rng| {
         let settings = gen::settings(rng);
         let deliveries = gen::deliveries(rng, &settings, 30);
-        journal_agrees(
-            &program,
-            text::lines_of(&settings).as_bytes(),
-            &gen::spoiled_deliveries_file(rng, &deliveries),
-        );
+        let text = gen::settings_text(rng, &settings);
+        journal_agrees(&program, &text, &gen::spoiled_deliveries_file(rng, &deliveries));
     });
     for line in gen::MALFORMED_DELIVERIES {
         journal_agrees(&program, example::C.as_bytes(), line);
@@ -129,11 +174,8 @@ fn doubtful_settings_are_refused_alike() {
     let program = Program::new("journal");
     for_each_seed(200, |rng| {
         let settings = gen::doubtful_settings(rng);
-        journal_agrees(
-            &program,
-            text::lines_of(&settings).as_bytes(),
-            b"number=1 command=hold value=0 second=0\n",
-        );
+        let text = gen::either_form(rng, &settings);
+        journal_agrees(&program, &text, b"number=1 command=hold value=0 second=0\n");
     });
 }
 

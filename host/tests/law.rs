@@ -106,8 +106,26 @@ fn a_set_comes_into_force_and_only_another_makes_an_automatic_loop_pending() {
     assert_eq!(after(manual, Set(2)), Loop { set: 2, ..manual });
     let pending = after(record, Set(3));
     assert_eq!(after(pending, Set(3)), pending, "pending stays");
-    for k in [-1, 4, i32::MIN, i32::MAX] {
+    assert_eq!(after(record, Set(15)), Loop { set: 15, pending: true, ..record });
+    for k in [-1, 16, i32::MIN, i32::MAX] {
         assert_eq!(obey(&mut running(), Set(k)), Err(Refusal::NoSuchSet));
+    }
+}
+
+/// Each of the sixteen sets has gains of its own. With kp = k alone, the transfer sample at e = 20
+/// leaves I = 100 - 20 k, and the next one at e = 21 gives 100 + k.
+#[test]
+fn the_gains_are_those_of_the_set_in_force() {
+    let mut record = running();
+    for (k, set) in (0..).zip(&mut record.settings.sets) {
+        *set = GainSet { kp: k * 65_536, ki: 0, kd: 0, alpha: 65_536, kt: 0 };
+    }
+    for k in 0..16 {
+        let started = Loop { pending: true, ..after(record, Set(k)) };
+        let transferred = after(started, Sample(480));
+        let integral = (100 - 20 * i64::from(k)) * Loop::F;
+        assert_eq!((transferred.u, transferred.integral), (100, integral), "set {k}");
+        assert_eq!(after(transferred, Sample(479)).u, 100 + k, "set {k}");
     }
 }
 
@@ -193,7 +211,7 @@ fn a_transfer_sample_reaches_the_bound_exactly() {
         out: 1_000_000,
         sp: -1_000_000,
         rate: 1,
-        sets: [gains; 4],
+        sets: [gains; 16],
     };
     let (code, fresh) = Loop::make(&settings);
     assert_eq!(code, 0);
@@ -285,7 +303,7 @@ fn the_output_is_rounded_and_not_cut() {
 fn hold_automatic_and_set_move_the_output_by_nothing() {
     for_each_seed(3_000, |rng| {
         let mut record = gen::record(rng);
-        let other = (record.set + 1 + rng.below(3) as i32) % 4;
+        let other = (record.set + 1 + rng.below(15) as i32) % 16;
         let command = match record.mode {
             Mode::Manual => rng.pick(&[Hold, Automatic]),
             Mode::Automatic => rng.pick(&[Hold, Set(other)]),

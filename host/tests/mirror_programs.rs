@@ -13,10 +13,9 @@ use host::rng::{for_each_seed, Rng};
 use host::settings::Settings;
 use host::{example, gen, text};
 
-/// What the program writes for settings and the bytes of its other file.
-fn written(program: &Program, settings: &Settings, lines: &[u8]) -> String {
-    let output = program.run(text::lines_of(settings).as_bytes(), lines);
-    String::from_utf8(output).expect("text")
+/// What the program writes for the bytes of its two files.
+fn written(program: &Program, settings: &[u8], lines: &[u8]) -> String {
+    String::from_utf8(program.run(settings, lines)).expect("text")
 }
 
 /// Whether this line refuses the file, and answers nothing in it.
@@ -25,20 +24,21 @@ fn refuses(line: &str) -> bool {
 }
 
 /// The program's output for a mirrored pair of files is a mirrored pair, line by line, and a file
-/// is refused as its mirror is. Gives the count of the answers.
+/// is refused as its mirror is, whichever forms the texts of the settings have. Gives the count of
+/// the answers.
 fn outputs_mirror(
     program: &Program,
-    settings: [&Settings; 2],
+    settings: &[Vec<u8>; 2],
     files: [Vec<u8>; 2],
     answer: impl Fn(&str) -> Option<String>,
 ) -> usize {
-    let output = written(program, settings[0], &files[0]);
+    let output = written(program, &settings[0], &files[0]);
     let expected: String = output
         .lines()
         .map(|line| if refuses(line) { line.into() } else { answer(line).expect("an answer") })
         .map(|line| line + "\n")
         .collect();
-    same("the mirror", written(program, settings[1], &files[1]).as_bytes(), &expected);
+    same("the mirror", written(program, &settings[1], &files[1]).as_bytes(), &expected);
     output.lines().filter(|line| !refuses(line)).count()
 }
 
@@ -96,8 +96,9 @@ fn pairs_mirror(
         for_each_seed(200, |rng| {
             let settings = gen::settings(rng);
             let pair = draw(mirror, rng, &settings);
-            let both = [&settings, &mirror.settings(&settings)];
-            let count = outputs_mirror(&program, both, pair.files, |line| answer(mirror, line));
+            let both = [settings, mirror.settings(&settings)];
+            let texts = both.map(|settings| gen::settings_text(rng, &settings));
+            let count = outputs_mirror(&program, &texts, pair.files, |line| answer(mirror, line));
             answered += count;
             halves.add_list(&settings, &pair.delivered[..pair.silent + count]);
         });
@@ -134,21 +135,23 @@ fn mirrored_samples_get_mirrored_outputs_from_oven() {
 }
 
 /// Halves of either sign at each place that 01 rounds, in ovens whose outputs are worked out by
-/// hand.
+/// hand. All of their sets are alike, so that both forms of the text say them.
 #[test]
 fn a_half_at_each_place_shows_in_what_the_programs_write() {
     let (oven, journal) = (Program::new("oven"), Program::new("journal"));
     for example in example::half_ovens() {
-        let output = written(&oven, &example.settings, &gen::sample_file(&example.samples));
+        let short = gen::short_text(&example.settings);
+        let output = written(&oven, &short, &gen::sample_file(&example.samples));
         let outputs: Vec<i32> = output.lines().map(|u| u.parse().expect("an output")).collect();
         assert_eq!(outputs, example.outputs, "{:?}", example.settings);
         for mirror in Mirror::BOTH {
-            let settings = [&example.settings, &mirror.settings(&example.settings)];
+            let mirrored = text::lines_of(&mirror.settings(&example.settings)).into_bytes();
+            let texts = [short.clone(), mirrored];
             let lists = [&example.samples[..], &mirror.samples(&example.samples)];
             let files = lists.map(gen::sample_file);
-            assert_eq!(outputs_mirror(&oven, settings, files, oven_line), outputs.len());
+            assert_eq!(outputs_mirror(&oven, &texts, files, oven_line), outputs.len());
             let files = lists.map(|list| gen::deliveries_file(&gen::sample_deliveries(list)));
-            outputs_mirror(&journal, settings, files, |line| mirror.journal_line(line));
+            outputs_mirror(&journal, &texts, files, |line| mirror.journal_line(line));
         }
     }
 }
@@ -162,8 +165,9 @@ fn mirrored_settings_are_taken_or_refused_by_both() {
     for mirror in Mirror::BOTH {
         for_each_seed(40, |rng| {
             let settings = gen::doubtful_settings(rng);
-            let one = written(&program, &settings, b"0\n");
-            let other = written(&program, &mirror.settings(&settings), b"0\n");
+            let texts = [settings, mirror.settings(&settings)]
+                .map(|settings| gen::settings_text(rng, &settings));
+            let [one, other] = texts.map(|text| written(&program, &text, b"0\n"));
             assert_eq!(refuses(&other), refuses(&one), "{settings:?}");
             assert_eq!(other == "refused 16 0\n", one == "refused 16 0\n", "{settings:?}");
             taken[usize::from(refuses(&one))] += 1;

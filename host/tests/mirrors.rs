@@ -142,7 +142,7 @@ fn the_mirror_of_the_action_flips_what_the_request_names() {
     assert_eq!(OfAction.record(&record), Some(mirrored));
     assert_eq!(OfAction.command(Put(-5)), Some(Put(5)));
     let aim = Command::Target { target: 800, rate: 50 };
-    for same in [Sample(480), Hold, Automatic, aim, Set(3), Sample(i32::MIN)] {
+    for same in [Sample(480), Hold, Automatic, aim, Set(3), Set(15), Sample(i32::MIN)] {
         assert_eq!(OfAction.command(same), Some(same));
     }
 }
@@ -171,7 +171,7 @@ fn the_mirror_of_the_temperatures_flips_what_the_request_names() {
     {
         assert_eq!(OfTemperatures.command(command), Some(flipped));
     }
-    for same in [Hold, Automatic, Set(3)] {
+    for same in [Hold, Automatic, Set(3), Set(15), Set(16), Set(-1)] {
         assert_eq!(OfTemperatures.command(same), Some(same));
     }
 }
@@ -237,8 +237,10 @@ fn mirrored_settings_make_mirrored_loops_or_are_refused_alike() {
             assert_eq!((one, other), (Loop::blank(), Loop::blank()));
         }
         codes[code as usize] += 1;
-        let read = |settings: &Settings| text::read(lines_of(settings).as_bytes()).code == 0;
-        assert_eq!(read(&mirrored), read(&settings), "as texts");
+        for settings in [settings, mirrored] {
+            let reading = text::read(&gen::settings_text(rng, &settings));
+            assert_eq!(reading.code == 0, code == 0, "as texts");
+        }
     });
     assert!(codes[0] > 1_000 && codes[11] > 1_000 && codes[16] > 100, "{codes:?}");
 }

@@ -1,15 +1,22 @@
 //! 01's program: its example, and how each line is answered.
 
+// What else the papers say of the settings text is the matter of other tests.
+#[allow(dead_code)]
+mod papers;
+
 use host::delivery::deliver;
 use host::example::{self, C};
 use host::gen;
 use host::law::{Command, Loop};
 use host::oven::{run, serve};
 use host::rng::for_each_seed;
-use host::text::lines_of;
+use papers::{both_forms, edges, full_c};
 
+/// The output with settings C, which is the same with each of its two texts.
 fn with_c(samples: &str) -> String {
-    run(C.as_bytes(), samples.as_bytes())
+    let [one, other] = both_forms().map(|(_, text)| run(text.as_bytes(), samples.as_bytes()));
+    assert_eq!(one, other);
+    one
 }
 
 /// "With settings C and samples 480, 480, 478 the whole output is three lines: 100, 105, 113."
@@ -71,8 +78,21 @@ fn refused_settings_end_the_run_before_any_sample() {
     assert_eq!(refused(C.replace("rate=50\n", "rate=\n")), "refused 14 6\n");
     assert_eq!(refused(C.replace("kt3=0\n", "kt3=65537\n")), "refused 15 26\n");
     assert_eq!(refused(C.replace("hi=1000\n", "hi=0\n")), "refused 16 0\n");
-    assert_eq!(refused(format!("{C}x")), "refused 17 0\n");
+    assert_eq!(refused(format!("{C}x")), "refused 14 27\n");
+    assert_eq!(refused(format!("{C}kp4=4194305\n")), "refused 15 27\n");
+    assert_eq!(refused(format!("{}x", full_c())), "refused 17 0\n");
     assert_eq!(run(b"x", b""), "refused 14 1\n", "no samples, and yet told");
+}
+
+/// Settings C at an edge of its two forms are taken whole or refused.
+#[test]
+fn settings_at_an_edge_are_taken_or_refused_as_the_papers_say() {
+    for (text, code, line) in edges() {
+        let written = run(text.as_bytes(), b"480\n480\n478\n");
+        let refused = format!("refused {code} {line}\n");
+        let expected = if code == 0 { "100\n105\n113\n" } else { &refused };
+        assert_eq!(written, expected, "{}", text.escape_debug());
+    }
 }
 
 /// "delivers automatic as number 1 and the samples from number 2 on": line k has number k + 1.
@@ -104,7 +124,7 @@ fn long_files_are_answered_line_by_line() {
             let answer = deliver(&mut record, number, Command::Sample(pv));
             expected += &format!("{}\n", answer.output);
         }
-        assert_eq!(run(lines_of(&settings).as_bytes(), &file), expected);
+        assert_eq!(run(&gen::settings_text(rng, &settings), &file), expected);
     });
 }
 
@@ -114,7 +134,7 @@ fn a_spoiled_file_is_answered_up_to_its_bad_line() {
     let mut codes = [0; 15];
     for_each_seed(500, |rng| {
         let settings = gen::settings(rng);
-        let text = lines_of(&settings).into_bytes();
+        let text = gen::settings_text(rng, &settings);
         let count = rng.below(40);
         let samples = gen::samples(rng, &settings, count);
         let good = run(&text, &gen::sample_file(&samples));

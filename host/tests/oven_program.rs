@@ -1,10 +1,14 @@
 //! The proved program `oven` against the peer: every byte that it writes.
 
 mod common;
+// What else the papers say of the settings text is the matter of other tests.
+#[allow(dead_code)]
+mod papers;
 
 use common::{across_a_cut, for_each_seed, odd_lines, same, words_of_digits, Program};
 use host::rng::Rng;
 use host::{example, gen, oven, text};
+use papers::{both_forms, edges, first_lines, full_c, longest_text};
 
 fn oven_agrees(program: &Program, settings: &[u8], samples: &[u8]) {
     same("oven", &program.run(settings, samples), &oven::run(settings, samples));
@@ -12,10 +16,39 @@ fn oven_agrees(program: &Program, settings: &[u8], samples: &[u8]) {
 
 #[test]
 fn the_example_of_01() {
-    assert_eq!(
-        Program::new("oven").run(example::C.as_bytes(), b"480\n480\n478\n"),
-        b"100\n105\n113\n"
-    );
+    let program = Program::new("oven");
+    for (_, settings) in both_forms() {
+        assert_eq!(program.run(settings.as_bytes(), b"480\n480\n478\n"), b"100\n105\n113\n");
+    }
+}
+
+/// Request 5's two forms: what the papers say of each edge, and not what the peer says.
+#[test]
+fn settings_at_an_edge_are_taken_or_refused_as_the_papers_say() {
+    let program = Program::new("oven");
+    for (text, code, line) in edges() {
+        let refused = format!("refused {code} {line}\n");
+        let expected = if code == 0 { "100\n105\n113\n" } else { &refused };
+        same("oven", &program.run(text.as_bytes(), b"480\n480\n478\n"), expected);
+    }
+    for lines in [26, 86] {
+        let longest = first_lines(&longest_text(), lines);
+        same("oven", &program.run(longest.as_bytes(), b""), "");
+    }
+}
+
+/// Settings C in 86 lines cut at each byte, and so in 26 too: "a full settings text cut exactly
+/// after the last line of set 3 is accepted, as the short form".
+#[test]
+fn settings_cut_anywhere_are_refused_where_they_stop() {
+    let program = Program::new("oven");
+    let full = full_c();
+    for length in 0..full.len() {
+        let feeds = full[..length].matches('\n').count();
+        let refused = format!("refused 14 {}\n", feeds + 1);
+        let expected = if length == example::C.len() { "100\n" } else { &refused };
+        same("oven", &program.run(&full.as_bytes()[..length], b"480\n"), expected);
+    }
 }
 
 #[test]
@@ -42,7 +75,8 @@ fn damaged_settings_are_refused_alike() {
     let program = Program::new("oven");
     for_each_seed(2_000, |rng| {
         let settings = gen::settings(rng);
-        let damaged = gen::damaged(rng, text::lines_of(&settings).as_bytes());
+        let whole = gen::either_form(rng, &settings);
+        let damaged = gen::damaged(rng, &whole);
         oven_agrees(&program, &damaged, b"0\n1\n");
     });
 }
@@ -60,7 +94,7 @@ fn sample_files_are_answered_alike() {
         } else {
             gen::sample_file(&samples)
         };
-        oven_agrees(&program, text::lines_of(&settings).as_bytes(), &file);
+        oven_agrees(&program, &gen::settings_text(rng, &settings), &file);
     });
 }
 
@@ -84,8 +118,14 @@ fn words_of_any_length_are_answered_alike() {
     for word in words_of_digits() {
         let samples = format!("480\n{word}\n480\n");
         oven_agrees(&program, example::C.as_bytes(), samples.as_bytes());
-        let settings = example::C.replace("hi=1000", &format!("hi={word}"));
-        oven_agrees(&program, settings.as_bytes(), b"480\n");
+        for settings in [
+            example::C.replace("hi=1000", &format!("hi={word}")),
+            example::C.replace("kt3=0", &format!("kt3={word}")),
+            format!("{}kp4={word}\n", example::C),
+            full_c().replace("kt15=0", &format!("kt15={word}")),
+        ] {
+            oven_agrees(&program, settings.as_bytes(), b"480\n");
+        }
     }
 }
 
@@ -95,6 +135,10 @@ fn a_hundred_thousand_digits_are_14() {
     let word = "9".repeat(100_000);
     let settings = example::C.replace("hi=1000", &format!("hi={word}"));
     assert_eq!(program.run(settings.as_bytes(), b"480\n"), b"refused 14 3\n");
+    let settings = format!("{}kp4={word}\n", example::C);
+    assert_eq!(program.run(settings.as_bytes(), b"480\n"), b"refused 14 27\n");
+    let settings = format!("{}kp16={word}\n", full_c());
+    assert_eq!(program.run(settings.as_bytes(), b"480\n"), b"refused 17 0\n");
     let samples = format!("480\n{word}\n480\n");
     assert_eq!(program.run(example::C.as_bytes(), samples.as_bytes()), b"100\nrefused 14 2\n");
 }

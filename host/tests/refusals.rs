@@ -1,5 +1,9 @@
 //! 01's table of codes: each is reached, and they come in 01's order.
 
+// What else the papers say of the settings text is the matter of other tests.
+#[allow(dead_code)]
+mod papers;
+
 use host::delivery::deliver;
 use host::example::{self, C};
 use host::law::{Command, Loop};
@@ -8,6 +12,7 @@ use host::refusal::{code, Refusal};
 use host::replay::{replay, Replayed};
 use host::settings::Settings;
 use host::text;
+use papers::full_c;
 use Command::{Automatic, Hold, Put, Sample, Set};
 
 /// The code of one delivery to a loop from C that has kept these commands.
@@ -27,10 +32,10 @@ fn aim(target: i32, rate: i32) -> Command {
     Command::Target { target, rate }
 }
 
-/// Settings C with one line in place of another.
-fn c_with(line: &str, other: &str) -> Vec<u8> {
-    assert!(C.contains(&format!("{line}\n")), "C has no line {line}");
-    C.replacen(line, other, 1).into_bytes()
+/// A text with one line in place of another.
+fn with(text: &str, line: &str, other: &str) -> String {
+    assert!(text.contains(&format!("{line}\n")), "there is no line {line}");
+    text.replacen(line, other, 1)
 }
 
 fn broken() -> Loop {
@@ -52,15 +57,15 @@ fn every_code_is_reached() {
         delivered(&[Automatic], 2, Put(50)),
         delivered(&[], 1, aim(1_000_001, 1)),
         delivered(&[], 1, aim(0, 2_000_001)),
-        delivered(&[], 1, Set(4)),
+        delivered(&[], 1, Set(16)),
         deliver(&mut broken(), 1, Hold).code,
         Loop::make(&wide).0,
         replay(&mut example::fresh(), 1, &[480], &mut []).code,
         replay(&mut near_the_end.clone(), u32::MAX, &[480; 2], &mut [0; 2]).code,
         text::read(b"").code,
-        text::read(&c_with("action=0", "action=2")).code,
+        text::read(with(C, "action=0", "action=2").as_bytes()).code,
         Loop::make(&narrow).0,
-        text::read(format!("{C}\n").as_bytes()).code,
+        text::read(format!("{}\n", full_c()).as_bytes()).code,
         text::write(&example::settings(), &mut []).code,
     ];
     assert_eq!(codes.to_vec(), (0..=18).collect::<Vec<i32>>());
@@ -146,28 +151,58 @@ fn writing_is_refused_in_order() {
     assert_eq!(write(all, 0), 11);
     assert_eq!(write(Settings { sp: 0, ..all }, 0), 16);
     assert_eq!(write(good, 0), 18);
-    assert_eq!(write(good, C.len() - 1), 18);
-    assert_eq!(write(good, C.len()), 0);
+    assert_eq!(write(good, C.len()), 18, "no short form is written");
+    assert_eq!(write(good, full_c().len() - 1), 18);
+    assert_eq!(write(good, full_c().len()), 0);
+}
+
+fn read(text: &str) -> (i32, usize) {
+    let reading = text::read(text.as_bytes());
+    (reading.code, reading.line)
 }
 
 /// "Lines count from 1 and are tested in order, 14 before 15 in each. [..] Then 17, then 16."
 #[test]
 fn reading_is_refused_in_order() {
-    let read = |text: &[u8]| {
-        let reading = text::read(text);
-        (reading.code, reading.line)
-    };
-    assert_eq!(read(b"action=2"), (14, 1), "its line feed is missing");
-    assert_eq!(read(b"action=2\n"), (15, 1));
-    assert_eq!(read(b"action=2\nx\n"), (15, 1), "an earlier line comes first");
-    assert_eq!(read(b"action=x\nlo=1000001\n"), (14, 1));
-    let limits = c_with("hi=1000", "hi=0");
+    assert_eq!(read("action=2"), (14, 1), "its line feed is missing");
+    assert_eq!(read("action=2\n"), (15, 1));
+    assert_eq!(read("action=2\nx\n"), (15, 1), "an earlier line comes first");
+    assert_eq!(read("action=x\nlo=1000001\n"), (14, 1));
+    let limits = with(&full_c(), "hi=1000", "hi=0");
     assert_eq!(read(&limits), (16, 0));
-    let and_bytes = [&limits[..], b"x"].concat();
+    let and_bytes = limits + "x";
     assert_eq!(read(&and_bytes), (17, 0), "17 before 16");
-    let and_value = String::from_utf8(and_bytes).unwrap();
-    let and_value = and_value.replace("kt3=0", "kt3=65537");
-    assert_eq!(read(and_value.as_bytes()), (15, 26), "15 before 17");
+    let and_value = with(&and_bytes, "kt15=0", "kt15=65537");
+    assert_eq!(read(&and_value), (15, 86), "15 before 17");
+    let and_form = with(&and_value, "kp15=65536", "kp15=");
+    assert_eq!(read(&and_form), (14, 82), "an earlier line comes first");
+}
+
+/// "26 lines with lo = hi are 16; the same and one more byte are 14 at 27", and never 17.
+#[test]
+fn reading_the_short_form_is_refused_in_order() {
+    let limits = with(C, "hi=1000", "hi=0");
+    assert_eq!(read(&limits), (16, 0));
+    let and_bytes = limits + "x";
+    assert_eq!(read(&and_bytes), (14, 27), "14 before 16");
+    let and_value = with(&and_bytes, "kt3=0", "kt3=65537");
+    assert_eq!(read(&and_value), (15, 26), "an earlier line comes first");
+    assert_eq!(read(&format!("{C}kp4=4194305")), (14, 27), "14 before 15");
+    assert_eq!(read(&format!("{C}kp4=4194305\n")), (15, 27));
+    assert_eq!(read(&format!("{C}kp4=4194304\n")), (14, 28));
+}
+
+/// "Raise four to sixteen, so code 9 starts at 16"; "Negative set numbers stay 9."
+#[test]
+fn code_9_starts_at_16() {
+    for k in 0..16 {
+        assert_eq!(delivered(&[], 1, Set(k)), 0, "set {k}");
+        assert_eq!(delivered(&[Automatic], 2, Set(k)), 0, "set {k}");
+    }
+    for k in [16, 17, 31, 32, 255, 256, 65_536, i32::MAX, -1, -15, -16, -256, i32::MIN] {
+        assert_eq!(delivered(&[], 1, Set(k)), 9, "set {k}");
+        assert_eq!(delivered(&[Automatic], 2, Set(k)), 9, "set {k}");
+    }
 }
 
 /// "Order: 10; first number 0 or at most last: 1; above last + 1: 3; 12; 13; then 4". One thing

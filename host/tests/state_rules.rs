@@ -7,6 +7,7 @@ use host::law::{obey, Command, Loop, Mode};
 use host::refusal::Refusal;
 use host::replay::{replay, Replayed};
 use host::rng::for_each_seed;
+use host::settings::GainSet;
 
 /// A valid automatic record, primed, that remembers a command.
 fn valid() -> Loop {
@@ -28,6 +29,11 @@ fn with(change: fn(&mut Loop)) -> Loop {
 
 /// Records that break one rule each.
 fn broken() -> Vec<Loop> {
+    [broken_settings(), broken_state()].concat()
+}
+
+/// Those that break "settings within the table".
+fn broken_settings() -> Vec<Loop> {
     vec![
         Loop::blank(),
         with(|l| l.settings.action = 2),
@@ -43,6 +49,15 @@ fn broken() -> Vec<Loop> {
         with(|l| l.settings.sets[2].ki = 4_194_305),
         with(|l| l.settings.sets[1].alpha = 0),
         with(|l| l.settings.sets[3].kt = 65_537),
+        with(|l| l.settings.sets[4].kp = -1),
+        with(|l| l.settings.sets[10].alpha = 65_537),
+        with(|l| l.settings.sets[15].kt = 65_537),
+    ]
+}
+
+/// Those that break another rule.
+fn broken_state() -> Vec<Loop> {
+    vec![
         with(|l| l.w = 1_000_001),
         with(|l| l.w = -1_000_001),
         with(|l| l.target = 1_000_001),
@@ -50,7 +65,10 @@ fn broken() -> Vec<Loop> {
         with(|l| l.rate = 0),
         with(|l| l.rate = 2_000_001),
         with(|l| l.set = -1),
-        with(|l| l.set = 4),
+        with(|l| l.set = 16),
+        with(|l| l.set = 256),
+        with(|l| l.set = i32::MIN),
+        with(|l| l.set = i32::MAX),
         with(|l| l.u = -1),
         with(|l| l.u = 1_001),
         with(|l| l.integral = 16_842_752_000_001),
@@ -80,6 +98,8 @@ fn at_the_ends() -> Vec<Loop> {
         with(|l| l.rate = 1),
         with(|l| l.rate = 2_000_000),
         with(|l| l.set = 3),
+        with(|l| l.set = 4),
+        with(|l| l.set = 15),
         with(|l| l.u = 0),
         with(|l| l.u = 1_000),
         with(|l| l.integral = 16_842_752_000_000),
@@ -108,6 +128,33 @@ fn each_rule_is_tested_and_nothing_more() {
     }
     for record in broken() {
         assert_eq!(record.check(), Err(Refusal::BrokenRecord), "{record:?}");
+    }
+}
+
+/// "settings within the table" speaks of each of the sixteen sets, whichever is in force.
+#[test]
+fn each_value_of_each_set_is_tested() {
+    for (k, set) in (0..16).flat_map(|k| (0..16).map(move |set| (k, set))) {
+        let spoiled: [fn(&mut GainSet); 10] = [
+            |gains| gains.kp = -1,
+            |gains| gains.kp = 4_194_305,
+            |gains| gains.ki = -1,
+            |gains| gains.ki = 4_194_305,
+            |gains| gains.kd = -1,
+            |gains| gains.kd = 4_194_305,
+            |gains| gains.alpha = 0,
+            |gains| gains.alpha = 65_537,
+            |gains| gains.kt = -1,
+            |gains| gains.kt = 65_537,
+        ];
+        let sound = Loop { set, ..valid() };
+        assert_eq!(sound.check(), Ok(()), "set {set}");
+        for spoil in spoiled {
+            let mut record = sound;
+            spoil(&mut record.settings.sets[k]);
+            assert_eq!(record.check(), Err(Refusal::BrokenRecord), "{record:?}");
+            assert_eq!(Loop::make(&record.settings), (11, Loop::blank()));
+        }
     }
 }
 

@@ -1,9 +1,14 @@
-//! 01, "Units": rounding, as request 3 has it, and the table of ranges.
+//! 01, "Units": rounding, as request 3 has it, and the table of ranges, as request 5 has it.
+
+// What else the papers say of the settings text is the matter of other tests.
+#[allow(dead_code)]
+mod papers;
 
 use host::by_hand::nearest;
 use host::law::{round, Loop};
 use host::rng::for_each_seed;
-use host::settings::{Settings, ROWS};
+use host::settings::{places, Settings, LINES, ROWS, SETS};
+use host::text::{SHORT_LINES, SHORT_SETS};
 
 /// "fine -32,768 now gives -1, and -32,767 gives 0"; 01's other numbers stand.
 #[test]
@@ -40,23 +45,29 @@ fn rounding_is_to_the_nearest_and_halves_go_away_from_zero_at_every_size() {
     assert!(halves > 1_000, "{halves} halves");
 }
 
+/// One row for each of 01's keys, and a place for each of the 86 lines.
 #[test]
 fn the_table_has_the_rows_of_01_in_the_order_of_the_text() {
-    let keys: Vec<&str> = ROWS.iter().map(|row| row.key).collect();
+    let letters = ROWS.map(|row| row.letters);
+    assert_eq!(letters.join(" "), "action lo hi out sp rate kp ki kd alpha kt");
+    let keys: Vec<String> = places().map(|place| place.key()).collect();
+    assert_eq!(keys, papers::keys());
     let spelled = "action lo hi out sp rate kp0 ki0 kd0 alpha0 kt0 kp1 ki1 kd1 alpha1 kt1 \
-                   kp2 ki2 kd2 alpha2 kt2 kp3 ki3 kd3 alpha3 kt3";
-    assert_eq!(keys.join(" "), spelled);
-    for row in ROWS {
-        let range = match row.key.trim_end_matches(|c: char| c.is_ascii_digit()) {
-            "action" => (0, 1),
-            "rate" => (1, 2_000_000),
-            "kp" | "ki" | "kd" => (0, 4_194_304),
-            "alpha" => (1, 65_536),
-            "kt" => (0, 65_536),
-            _ => (-1_000_000, 1_000_000),
-        };
-        assert_eq!((row.least, row.most), range, "{}", row.key);
+                   kp2 ki2 kd2 alpha2 kt2 kp3 ki3 kd3 alpha3 kt3 kp4 ki4 kd4 alpha4 kt4";
+    assert_eq!(keys[..31].join(" "), spelled);
+    assert_eq!(keys[56..61].join(" "), "kp10 ki10 kd10 alpha10 kt10");
+    assert_eq!(keys[81..].join(" "), "kp15 ki15 kd15 alpha15 kt15");
+    for (place, key) in places().zip(&keys) {
+        assert_eq!((place.row.least, place.row.most), papers::range(key), "{key}");
     }
+}
+
+/// "Raise four to sixteen, so code 9 starts at 16 and the text has 86 lines".
+#[test]
+fn the_counts_are_those_of_request_5() {
+    assert_eq!((SETS, LINES, places().count()), (16, 86, 86));
+    assert_eq!((SHORT_SETS, SHORT_LINES), (4, 26));
+    assert_eq!(Loop::SETS, 0..=15);
 }
 
 #[test]
@@ -72,11 +83,13 @@ fn the_bounds_of_the_state_rules_follow_from_the_ranges() {
 #[test]
 fn values_and_settings_are_two_views_of_the_same() {
     for_each_seed(200, |rng| {
-        let values = [0; 26].map(|_: i32| rng.bits() as i32);
+        let values = [0; 86].map(|_: i32| rng.bits() as i32);
         let settings = Settings::from_values(&values);
         assert_eq!(settings.values(), values);
         assert_eq!((settings.lo, settings.rate), (values[1], values[5]));
         assert_eq!((settings.sets[0].kp, settings.sets[3].kt), (values[6], values[25]));
         assert_eq!((settings.sets[2].ki, settings.sets[1].alpha), (values[17], values[14]));
+        assert_eq!((settings.sets[4].kp, settings.sets[10].kd), (values[26], values[58]));
+        assert_eq!((settings.sets[15].kp, settings.sets[15].kt), (values[81], values[85]));
     });
 }
