@@ -3,7 +3,7 @@
 mod count;
 mod rewrite;
 
-use rewrite::Loop;
+use rewrite::{Loop, GAINS, ONCE, SETS, VALUES};
 use std::arch::asm;
 use std::time::Instant;
 
@@ -12,14 +12,28 @@ const TURNS: usize = 31;
 const MOST: f64 = 1.5;
 const TARGET: i32 = 800;
 
+/// The sets of settings C that document 01 lists.
+const LISTED: usize = 4;
+
 /// Settings C of document 01, in the order of the text.
-const C: [i32; 26] = [
+const SHORT: [i32; ONCE + GAINS * LISTED] = [
     0, 0, 1000, 100, 500, 50, //
     65536, 16384, 0, 65536, 0, //
     131072, 16384, 65536, 32768, 0, //
     65536, 16384, 0, 65536, 32768, //
     32768, 0, 0, 65536, 0,
 ];
+
+/// The same with every other set equal to set 0.
+const C: [i32; VALUES] = {
+    let mut values = [0; VALUES];
+    let mut i = 0;
+    while i < VALUES {
+        values[i] = SHORT[if i < SHORT.len() { i } else { ONCE + (i - ONCE) % GAINS }];
+        i += 1;
+    }
+    values
+};
 
 extern "C" {
     fn port_replay(
@@ -112,7 +126,7 @@ fn compare(set: i32, wild: bool, emulated: bool) -> bool {
     let (time, rust_time) = (median(a), median(b));
     let name = if wild { "wild" } else { "smooth" };
     println!(
-        "set {set} {name:6}  instructions a sample {steps:6.2} to {rust_steps:6.2}, ratio {:.3}  time {:6.2} ms to {:6.2} ms, ratio {:.3}{}",
+        "set {set:2} {name:6}  instructions a sample {steps:6.2} to {rust_steps:6.2}, ratio {:.3}  time {:6.2} ms to {:6.2} ms, ratio {:.3}{}",
         steps / rust_steps,
         time * 1e3,
         rust_time * 1e3,
@@ -126,9 +140,10 @@ fn main() {
     let emulated = std::env::var("X86_EMULATED").is_ok();
     println!("a replay of {SAMPLES} samples, proved to ordinary Rust");
     let mut within = true;
-    for set in 0..4 {
+    // those that differ, and the last
+    for set in (0..LISTED).chain([SETS - 1]) {
         for wild in [false, true] {
-            within &= compare(set, wild, emulated);
+            within &= compare(set as i32, wild, emulated);
         }
     }
     println!("{}", if within { "every ratio within 1.5" } else { "A RATIO ABOVE 1.5" });

@@ -5,6 +5,12 @@
 pub const F: i64 = 65_536;
 pub const B: i64 = 16_842_752_000_000;
 
+/// The gain sets of a loop, the values before them in the text, and those of each.
+pub const SETS: usize = 16;
+pub const ONCE: usize = 6;
+pub const GAINS: usize = 5;
+pub const VALUES: usize = ONCE + GAINS * SETS;
+
 #[derive(Clone, Copy)]
 pub struct Gains {
     pub kp: i64,
@@ -22,7 +28,7 @@ pub struct Settings {
     pub out: i64,
     pub sp: i64,
     pub rate: i64,
-    pub gains: [Gains; 4],
+    pub gains: [Gains; SETS],
 }
 
 #[allow(dead_code)]
@@ -61,14 +67,17 @@ fn round(x: i64) -> i64 {
 
 impl Loop {
     /// A fresh loop of settings whose values stand in the order of the text, automatic, with a gain set and a target.
-    pub fn new(values: &[i32; 26], set: usize, target: i32) -> Loop {
+    pub fn new(values: &[i32; VALUES], set: usize, target: i32) -> Loop {
         let value = |i: usize| i64::from(values[i]);
-        let gains = |k: usize| Gains {
-            kp: value(6 + 5 * k),
-            ki: value(7 + 5 * k),
-            kd: value(8 + 5 * k),
-            alpha: value(9 + 5 * k),
-            kt: value(10 + 5 * k),
+        let gains = |k: usize| {
+            let first = ONCE + GAINS * k;
+            Gains {
+                kp: value(first),
+                ki: value(first + 1),
+                kd: value(first + 2),
+                alpha: value(first + 3),
+                kt: value(first + 4),
+            }
         };
         let settings = Settings {
             action: value(0),
@@ -77,7 +86,7 @@ impl Loop {
             out: value(3),
             sp: value(4),
             rate: value(5),
-            gains: [gains(0), gains(1), gains(2), gains(3)],
+            gains: std::array::from_fn(gains),
         };
         Loop {
             settings,
