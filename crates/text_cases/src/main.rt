@@ -4,37 +4,64 @@ ghost use Prim.Native.Nat.{_≤_};
 ghost use lib.ListN.{length};
 use libc::STDOUT_FILENO;
 use settings::Settings;
+use text::reader::Reading;
+use text::reader::read_settings;
 use word::decimal::Decimal;
 use word::decimal::Shown;
 use word::number;
 
 // ---- texts that are put together
 
-// The whole text of settings C.
-const C: [u8; 230] = *b"action=0\nlo=0\nhi=1000\nout=100\nsp=500\nrate=50\n\
+// The whole text of settings C, whose sets 4 to 15 are set 0.
+const C: [u8; 800] = *b"action=0\nlo=0\nhi=1000\nout=100\nsp=500\nrate=50\n\
       kp0=65536\nki0=16384\nkd0=0\nalpha0=65536\nkt0=0\n\
       kp1=131072\nki1=16384\nkd1=65536\nalpha1=32768\nkt1=0\n\
       kp2=65536\nki2=16384\nkd2=0\nalpha2=65536\nkt2=32768\n\
-      kp3=32768\nki3=0\nkd3=0\nalpha3=65536\nkt3=0\n";
+      kp3=32768\nki3=0\nkd3=0\nalpha3=65536\nkt3=0\n\
+      kp4=65536\nki4=16384\nkd4=0\nalpha4=65536\nkt4=0\n\
+      kp5=65536\nki5=16384\nkd5=0\nalpha5=65536\nkt5=0\n\
+      kp6=65536\nki6=16384\nkd6=0\nalpha6=65536\nkt6=0\n\
+      kp7=65536\nki7=16384\nkd7=0\nalpha7=65536\nkt7=0\n\
+      kp8=65536\nki8=16384\nkd8=0\nalpha8=65536\nkt8=0\n\
+      kp9=65536\nki9=16384\nkd9=0\nalpha9=65536\nkt9=0\n\
+      kp10=65536\nki10=16384\nkd10=0\nalpha10=65536\nkt10=0\n\
+      kp11=65536\nki11=16384\nkd11=0\nalpha11=65536\nkt11=0\n\
+      kp12=65536\nki12=16384\nkd12=0\nalpha12=65536\nkt12=0\n\
+      kp13=65536\nki13=16384\nkd13=0\nalpha13=65536\nkt13=0\n\
+      kp14=65536\nki14=16384\nkd14=0\nalpha14=65536\nkt14=0\n\
+      kp15=65536\nki15=16384\nkd15=0\nalpha15=65536\nkt15=0\n";
+
+// Its first 26 lines: "Settings C, whole" in the first paper.
+const SHORT_C: usize = 230;
 
 // The longest text.
-const LONGEST: [u8; 306] =
+const LONGEST: [u8; 1044] =
     *b"action=1\nlo=-1000000\nhi=1000000\nout=-1000000\nsp=-1000000\nrate=2000000\n\
       kp0=4194304\nki0=4194304\nkd0=4194304\nalpha0=65536\nkt0=65536\n\
       kp1=4194304\nki1=4194304\nkd1=4194304\nalpha1=65536\nkt1=65536\n\
       kp2=4194304\nki2=4194304\nkd2=4194304\nalpha2=65536\nkt2=65536\n\
-      kp3=4194304\nki3=4194304\nkd3=4194304\nalpha3=65536\nkt3=65536\n";
+      kp3=4194304\nki3=4194304\nkd3=4194304\nalpha3=65536\nkt3=65536\n\
+      kp4=4194304\nki4=4194304\nkd4=4194304\nalpha4=65536\nkt4=65536\n\
+      kp5=4194304\nki5=4194304\nkd5=4194304\nalpha5=65536\nkt5=65536\n\
+      kp6=4194304\nki6=4194304\nkd6=4194304\nalpha6=65536\nkt6=65536\n\
+      kp7=4194304\nki7=4194304\nkd7=4194304\nalpha7=65536\nkt7=65536\n\
+      kp8=4194304\nki8=4194304\nkd8=4194304\nalpha8=65536\nkt8=65536\n\
+      kp9=4194304\nki9=4194304\nkd9=4194304\nalpha9=65536\nkt9=65536\n\
+      kp10=4194304\nki10=4194304\nkd10=4194304\nalpha10=65536\nkt10=65536\n\
+      kp11=4194304\nki11=4194304\nkd11=4194304\nalpha11=65536\nkt11=65536\n\
+      kp12=4194304\nki12=4194304\nkd12=4194304\nalpha12=65536\nkt12=65536\n\
+      kp13=4194304\nki13=4194304\nkd13=4194304\nalpha13=65536\nkt13=65536\n\
+      kp14=4194304\nki14=4194304\nkd14=4194304\nalpha14=65536\nkt14=65536\n\
+      kp15=4194304\nki15=4194304\nkd15=4194304\nalpha15=65536\nkt15=65536\n";
 
-// The same with hi = lo, of 307 bytes, and a byte more.
-const LONGER: [u8; 308] =
-    *b"action=1\nlo=-1000000\nhi=-1000000\nout=-1000000\nsp=-1000000\nrate=2000000\n\
-      kp0=4194304\nki0=4194304\nkd0=4194304\nalpha0=65536\nkt0=65536\n\
-      kp1=4194304\nki1=4194304\nkd1=4194304\nalpha1=65536\nkt1=65536\n\
-      kp2=4194304\nki2=4194304\nkd2=4194304\nalpha2=65536\nkt2=65536\n\
-      kp3=4194304\nki3=4194304\nkd3=4194304\nalpha3=65536\nkt3=65536\nx";
+// Its first 26 lines.
+const SHORT_LONGEST: usize = 306;
+
+// Room for any text of these cases.
+const ROOM: usize = 1100;
 
 struct Made {
-    bytes: [u8; 1024],
+    bytes: [u8; ROOM],
     len: usize,
 }
 
@@ -59,7 +86,7 @@ fn start_of(s: &[u8], byte: u8, n: usize) -> usize
 impl Made {
     fn empty() -> Made {
         Made {
-            bytes: [0; 1024],
+            bytes: [0; ROOM],
             len: 0,
         }
     }
@@ -70,7 +97,7 @@ impl Made {
         let mut len = self.len;
         let mut i: usize = 0;
         while i < more.len() {
-            if len < 1024 {
+            if len < ROOM {
                 bytes[len] = more[i];
                 len += 1;
             }
@@ -79,20 +106,23 @@ impl Made {
         Made { bytes, len }
     }
 
-    // Settings C up to line n, and then other bytes.
-    fn before(n: usize, new: &[u8]) -> Made {
-        let c = C;
-        let a = start_of(&c, b'\n', n);
-        Made::empty().with(&c[0..a]).with(new)
+    // A text up to line n, and then other bytes.
+    fn before(text: &[u8], n: usize, new: &[u8]) -> Made {
+        let a = start_of(text, b'\n', n);
+        Made::empty().with(&text[0..a]).with(new)
     }
 
-    // Settings C with other bytes in the place of line n.
-    fn changed(n: usize, new: &[u8]) -> Made {
-        let c = C;
-        let a = start_of(&c, b'\n', n);
-        let rest = &c[a..];
+    // A text with other bytes in the place of line n.
+    fn changed(text: &[u8], n: usize, new: &[u8]) -> Made {
+        let a = start_of(text, b'\n', n);
+        let rest = &text[a..];
         let z = start_of(rest, b'\n', 2);
-        Made::before(n, new).with(&rest[z..])
+        Made::before(text, n, new).with(&rest[z..])
+    }
+
+    // The longest text, or its first lines, with hi = lo.
+    fn level(text: &[u8]) -> Made {
+        Made::changed(text, 3, b"hi=-1000000\n")
     }
 }
 
@@ -108,16 +138,22 @@ fn say(name: &[u8], code: u8, n: usize) {
 }
 
 fn read(name: &[u8], bytes: &[u8]) {
-    let r = text::reader::read_settings(bytes);
+    let r = read_settings(bytes);
     say(name, r.code, r.line);
 }
 
-fn read_made(name: &[u8], made: Made) {
+fn reading_of(made: Made) -> Reading {
     let bytes = made.bytes;
     let len = made.len;
-    if len <= 1024 {
-        read(name, &bytes[0..len]);
+    if len <= ROOM {
+        return read_settings(&bytes[0..len]);
     }
+    read_settings(b"")
+}
+
+fn read_made(name: &[u8], made: Made) {
+    let r = reading_of(made);
+    say(name, r.code, r.line);
 }
 
 // ---- cases, each a name, a line and bytes, with a bar after each
@@ -143,18 +179,18 @@ fn number(word: &[u8]) -> usize {
     (word[0] % 48) as usize * 10 + (word[1] % 48) as usize
 }
 
-// Reads, for each case, settings C with the case's bytes in the place of its line; or, where cut, C up to that line and then
+// Reads, for each case, a text with the case's bytes in the place of its line; or, where cut, the text up to that line and then
 // the case's bytes.
-fn cases(cut: bool, list: &[u8]) {
+fn cases(text: &[u8], cut: bool, list: &[u8]) {
     let mut rest = list;
     while 0 < rest.len() {
         let line = after(rest);
         let bytes = after(line);
         let n = number(field(line));
         if cut {
-            read_made(field(rest), Made::before(n, field(bytes)));
+            read_made(field(rest), Made::before(text, n, field(bytes)));
         } else {
-            read_made(field(rest), Made::changed(n, field(bytes)));
+            read_made(field(rest), Made::changed(text, n, field(bytes)));
         }
         let next = after(bytes);
         if rest.len() <= next.len() {
@@ -166,10 +202,12 @@ fn cases(cut: bool, list: &[u8]) {
 
 // "Text that stops early is 14 at the line where it stops."
 fn early() {
+    let c = C;
     read(b"empty", b"");
     read(b"one-line-feed", b"\n");
     read(b"one-byte", b"a");
     cases(
+        &c[..SHORT_C],
         true,
         b"stops-after-line-5|06||\
           stops-after-line-1|02||\
@@ -180,6 +218,7 @@ fn early() {
           stops-after-a-value|06|rate=50|",
     );
     cases(
+        &c[..SHORT_C],
         false,
         b"no-last-line-feed|26|kt3=0|\
           no-last-line-feed-and-too-large|26|kt3=9999999|",
@@ -188,7 +227,9 @@ fn early() {
 
 // Lines of wrong form: 14.
 fn forms() {
+    let c = C;
     cases(
+        &c[..SHORT_C],
         false,
         b"crlf|01|action=0\r\n|\
           crlf-on-the-last-line|26|kt3=0\r\n|\
@@ -215,7 +256,9 @@ fn forms() {
 
 // Values of wrong form: 14.
 fn values() {
+    let c = C;
     cases(
+        &c[..SHORT_C],
         false,
         b"no-value|03|hi=\n|\
           minus-alone|03|hi=-\n|\
@@ -240,7 +283,9 @@ fn values() {
 
 // Values outside their ranges: 15; and at the ends of their ranges: 0.
 fn ranges() {
+    let c = C;
     cases(
+        &c[..SHORT_C],
         false,
         b"seven-digits-too-large|03|hi=9999999\n|\
           seven-digits-too-small|02|lo=-9999999\n|\
@@ -270,13 +315,16 @@ fn ranges() {
 
 // The order of the tests: lines in order, 14 before 15 in each, then 17, then 16.
 fn orders() {
+    let c = C;
     cases(
+        &c[..SHORT_C],
         true,
         b"15-on-line-2-14-on-line-3|02|lo=9999999\nhi=\n|\
           14-on-line-2-15-on-line-3|02|lo=\nhi=9999999\n|\
           keys-in-another-order|02|hi=1000\nlo=0\nout=100\n|",
     );
     cases(
+        &c[..SHORT_C],
         false,
         b"too-large-and-a-space|03|hi=9999999 \n|\
           a-line-twice|07|kp0=65536\nkp0=65536\n|\
@@ -287,31 +335,81 @@ fn orders() {
           out-is-lo|04|out=0\n|\
           out-is-hi|04|out=1000\n|\
           out-above-hi|04|out=1001\n|\
-          a-byte-after-the-last-line|26|kt3=0\nx|\
-          a-line-feed-after-the-last-line|26|kt3=0\n\n|\
-          a-line-after-the-last-line|26|kt3=0\nkp4=0\n|",
+          a-byte-after-line-26|27|x|\
+          a-line-feed-after-line-26|27|\n|\
+          a-space-after-line-26|27| |\
+          a-key-after-line-26|27|kp4|\
+          no-line-feed-after-line-27|27|kp4=0|\
+          line-27-too-large|27|kp4=4194305\n|\
+          a-good-line-27|27|kp4=0\n|\
+          line-26-twice|27|kt3=0\n|",
+    );
+    read_made(
+        b"lo-is-hi-and-a-byte-after-line-26",
+        Made::changed(&c[..SHORT_C], 3, b"hi=0\n").with(b"x"),
     );
 }
 
-// 306 bytes are accepted, 307 have lo = hi, and a byte more comes before that.
+// "86 lines": each line after 26 is tested as those before it are.
+fn long_forms() {
+    let c = C;
+    read(b"86-lines", &c);
+    cases(
+        &c,
+        true,
+        b"stops-after-line-26|27||\
+          stops-after-line-27|28||\
+          stops-after-line-31|32||\
+          stops-after-line-85|86||\
+          stops-in-line-57|57|kp10=6|\
+          stops-in-line-86|86|kt15=0|",
+    );
+    cases(
+        &c,
+        false,
+        b"line-27-left-out|27||\
+          key-of-set-0-on-line-27|27|kp0=65536\n|\
+          a-leading-zero-in-a-set|27|kp04=65536\n|\
+          key-of-set-1-on-line-57|57|kp1=65536\n|\
+          key-of-set-16-on-line-82|82|kp16=65536\n|\
+          kp15-4194304|82|kp15=4194304\n|\
+          kp15-4194305|82|kp15=4194305\n|\
+          alpha10-0|60|alpha10=0\n|\
+          kt15-65537|86|kt15=65537\n|\
+          lo-is-hi-in-86-lines|03|hi=0\n|\
+          a-byte-after-the-last-line|86|kt15=0\nx|\
+          a-line-feed-after-the-last-line|86|kt15=0\n\n|\
+          a-line-after-the-last-line|86|kt15=0\nkp16=0\n|",
+    );
+}
+
+// 1,044 bytes are accepted, 1,045 have lo = hi, and a byte more comes before that.
 fn lengths() {
     let longest = LONGEST;
-    let longer = LONGER;
     let many = [b'a'; 4096];
-    read(b"306-bytes", &longest);
-    read(b"307-bytes", &longer[..307]);
-    read(b"308-bytes", &longer);
-    read(b"305-of-306-bytes", &longest[..305]);
+    read(b"1044-bytes", &longest);
+    read(b"1043-of-1044-bytes", &longest[..1043]);
+    read_made(b"1045-bytes", Made::level(&longest));
+    read_made(b"1046-bytes", Made::level(&longest).with(b"x"));
     read(b"4096-bytes-and-no-line-feed", &many);
+}
+
+// So too 306 and 307 of 26 lines, but that a byte more is line 27.
+fn short_lengths() {
+    let longest = LONGEST;
+    read(b"306-bytes", &longest[..SHORT_LONGEST]);
+    read(b"305-of-306-bytes", &longest[..305]);
+    read_made(b"307-bytes", Made::level(&longest[..SHORT_LONGEST]));
+    read_made(b"308-bytes", Made::level(&longest[..SHORT_LONGEST]).with(b"x"));
 }
 
 // ---- the writer
 
 // How many bytes at the end are still x.
-fn kept(buffer: &[u8; 400]) -> usize {
+fn kept(buffer: &[u8; ROOM]) -> usize {
     let mut n: usize = 0;
-    while n < 400 {
-        if buffer[399 - n] != b'x' {
+    while n < ROOM {
+        if buffer[ROOM - 1 - n] != b'x' {
             return n;
         }
         n += 1;
@@ -319,11 +417,11 @@ fn kept(buffer: &[u8; 400]) -> usize {
     n
 }
 
-// Writes into the first bytes of 400 that are all x, and says how many at the end stayed so. The line feed that ends a text
+// Writes into the first bytes of ROOM that are all x, and says how many at the end stayed so. The line feed that ends a text
 // is no x, so this counts the bytes after it.
 fn write(name: &[u8], s: Settings, room: usize) {
-    let mut buffer = [b'x'; 400];
-    if room <= 400 {
+    let mut buffer = [b'x'; ROOM];
+    if room <= ROOM {
         let w = text::writer::write_settings(s, &mut buffer[0..room]);
         say(name, w.code, w.len);
         say(b"  bytes-kept", w.code, kept(&buffer));
@@ -331,22 +429,23 @@ fn write(name: &[u8], s: Settings, room: usize) {
 }
 
 fn settings_of(bytes: &[u8]) -> Settings {
-    text::reader::read_settings(bytes).settings
+    read_settings(bytes).settings
 }
 
 // 18 for a buffer shorter than the text; else the length, and every byte after the text stays.
 fn rooms() {
     let c = C;
     let longest = LONGEST;
-    let s = settings_of(&c);
+    let s = settings_of(&c[..SHORT_C]);
     let l = settings_of(&longest);
-    write(b"c-in-400-bytes", s, 400);
+    write(b"c-in-1100-bytes", s, ROOM);
+    write(b"c-in-800-bytes", s, 800);
+    write(b"c-in-799-bytes", s, 799);
     write(b"c-in-230-bytes", s, 230);
-    write(b"c-in-229-bytes", s, 229);
     write(b"c-in-0-bytes", s, 0);
-    write(b"longest-in-400-bytes", l, 400);
-    write(b"longest-in-306-bytes", l, 306);
-    write(b"longest-in-305-bytes", l, 305);
+    write(b"longest-in-1100-bytes", l, ROOM);
+    write(b"longest-in-1044-bytes", l, 1044);
+    write(b"longest-in-1043-bytes", l, 1043);
 }
 
 // 11, then 16, then 18.
@@ -363,25 +462,25 @@ fn wrongs() {
     out.out = 1001;
     let mut slow = equal;
     slow.rate = 0;
-    write(b"write-hi-1000001", high, 400);
-    write(b"write-lo-least-of-32-bits", low, 400);
-    write(b"write-lo-is-hi", equal, 400);
-    write(b"write-out-above-hi", out, 400);
-    write(b"write-rate-0-and-lo-is-hi", slow, 400);
+    write(b"write-hi-1000001", high, ROOM);
+    write(b"write-lo-least-of-32-bits", low, ROOM);
+    write(b"write-lo-is-hi", equal, ROOM);
+    write(b"write-out-above-hi", out, ROOM);
+    write(b"write-rate-0-and-lo-is-hi", slow, ROOM);
     write(b"write-rate-0-and-0-bytes", slow, 0);
     write(b"write-lo-is-hi-and-0-bytes", equal, 0);
-    write(b"write-blank", Settings::blank(), 400);
+    write(b"write-blank", Settings::blank(), ROOM);
 }
 
 // ---- there and back
 
-// Reads a text and writes it again: the code and length, or 99 where the bytes are others.
-fn again(name: &[u8], bytes: &[u8]) {
-    let mut buffer = [b'x'; 400];
+// Reads a text and writes its settings: the code and length, or 99 where the bytes are others than all of these.
+fn again(name: &[u8], bytes: &[u8], all: &[u8]) {
+    let mut buffer = [b'x'; ROOM];
     let w = text::writer::write_settings(settings_of(bytes), &mut buffer);
     let n = w.len;
-    if n <= 400 {
-        if check::same(&buffer[0..n], bytes) {
+    if n <= ROOM {
+        if check::same(&buffer[0..n], all) {
             say(name, w.code, n);
             return;
         }
@@ -390,8 +489,8 @@ fn again(name: &[u8], bytes: &[u8]) {
 }
 
 // How many of the values beside a code are not zero.
-fn beside(name: &[u8], bytes: &[u8]) {
-    let r = text::reader::read_settings(bytes);
+fn beside(name: &[u8], made: Made) {
+    let r = reading_of(made);
     let settings = r.settings;
     let mut n: usize = 0;
     let mut i: usize = 0;
@@ -406,15 +505,25 @@ fn beside(name: &[u8], bytes: &[u8]) {
 
 fn trips() {
     let c = C;
+    let whole_c = C;
     let longest = LONGEST;
-    let longer = LONGER;
-    again(b"c-again", &c);
-    again(b"longest-again", &longest);
-    beside(b"values-of-c", &c);
-    beside(b"values-of-longest", &longest);
-    beside(b"values-beside-16", &longer[..307]);
-    beside(b"values-beside-17", &longer);
-    beside(b"values-beside-14", &longest[..305]);
+    let whole_longest = LONGEST;
+    again(b"c-again", &c, &whole_c);
+    again(b"short-c-again", &c[..SHORT_C], &whole_c);
+    again(b"longest-again", &longest, &whole_longest);
+    again(b"short-longest-again", &longest[..SHORT_LONGEST], &whole_longest);
+}
+
+// "What stands beside the code is the blank."
+fn blanks() {
+    let c = C;
+    let longest = LONGEST;
+    beside(b"values-of-c", Made::empty().with(&c[..SHORT_C]));
+    beside(b"values-of-longest", Made::empty().with(&longest));
+    beside(b"values-beside-16", Made::level(&longest));
+    beside(b"values-beside-17", Made::level(&longest).with(b"x"));
+    beside(b"values-beside-16-in-26-lines", Made::level(&longest[..SHORT_LONGEST]));
+    beside(b"values-beside-14", Made::level(&longest[..SHORT_LONGEST]).with(b"x"));
 }
 
 // ---- one decimal
@@ -475,10 +584,13 @@ fn main() {
     values();
     ranges();
     orders();
+    long_forms();
     lengths();
+    short_lengths();
     rooms();
     wrongs();
     trips();
+    blanks();
     decimals();
     long_words();
 }

@@ -8,13 +8,13 @@ use Rattle.text_cases.proofs.beside.Statement.{statement}
 use Rattle.text_cases.proofs.beside.Tie as tie
 
 abbrev Inv-loop : tie.InvT-loop
-Inv-loop name bytes r settings n₀ i₀ n i = (i ≤ lines) × (n ≤ i)
+Inv-loop name r settings n₀ i₀ n i = (i ≤ lines) × (n ≤ i)
 
 abbrev μ-loop : tie.MeasureT-loop
-μ-loop name bytes r settings n₀ i₀ n i = lines - i
+μ-loop name r settings n₀ i₀ n i = lines - i
 
-read-settings-requires : tie.Need-read-settings-requires Inv-loop μ-loop
-read-settings-requires c κs = search needs
+reading-of-requires : tie.Need-reading-of-requires Inv-loop μ-loop
+reading-of-requires c κs = search needs
 
 loop-holds : tie.Need-loop-holds Inv-loop μ-loop
 loop-holds c = omega arith
@@ -46,7 +46,7 @@ beside-spec =
     (tie.spec
     Inv-loop
     μ-loop
-    read-settings-requires
+    reading-of-requires
     loop-holds
     value-requires
     add-n

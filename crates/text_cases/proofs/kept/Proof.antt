@@ -1,4 +1,4 @@
--- The loop's invariant: n is at most 400.
+-- The loop's invariant: n is at most 1100.
 use Prim.Native.Nat.{_-_, _≤_}
 use native.Mathlib.Omega.{arith}
 use borrow.Author.Needs.{needs}
@@ -6,16 +6,19 @@ use Rattle.text_cases.proofs.kept.Statement.{statement}
 use Rattle.text_cases.proofs.kept.Tie as tie
 
 abbrev Inv-loop : tie.InvT-loop
-Inv-loop buffer n₀ n = n ≤ 400
+Inv-loop buffer n₀ n = n ≤ 1100
 
 abbrev μ-loop : tie.MeasureT-loop
-μ-loop buffer n₀ n = 400 - n
+μ-loop buffer n₀ n = 1100 - n
 
 loop-holds : tie.Need-loop-holds Inv-loop μ-loop
 loop-holds c = omega arith
 
 sub-if1 : tie.Need-sub-if1 Inv-loop μ-loop
 sub-if1 c = omega arith
+
+sub-if1-2 : tie.Need-sub-if1-2 Inv-loop μ-loop
+sub-if1-2 c = omega arith
 
 element-copy-out-if1 : tie.Need-element-copy-out-if1 Inv-loop μ-loop
 element-copy-out-if1 c = omega arith
@@ -43,6 +46,7 @@ kept-spec =
     μ-loop
     loop-holds
     sub-if1
+    sub-if1-2
     element-copy-out-if1
     returns
     add-n
