@@ -400,7 +400,10 @@ fn short_lengths() {
     read(b"306-bytes", &longest[..SHORT_LONGEST]);
     read(b"305-of-306-bytes", &longest[..305]);
     read_made(b"307-bytes", Made::level(&longest[..SHORT_LONGEST]));
-    read_made(b"308-bytes", Made::level(&longest[..SHORT_LONGEST]).with(b"x"));
+    read_made(
+        b"308-bytes",
+        Made::level(&longest[..SHORT_LONGEST]).with(b"x"),
+    );
 }
 
 // ---- the writer
@@ -511,7 +514,11 @@ fn trips() {
     again(b"c-again", &c, &whole_c);
     again(b"short-c-again", &c[..SHORT_C], &whole_c);
     again(b"longest-again", &longest, &whole_longest);
-    again(b"short-longest-again", &longest[..SHORT_LONGEST], &whole_longest);
+    again(
+        b"short-longest-again",
+        &longest[..SHORT_LONGEST],
+        &whole_longest,
+    );
 }
 
 // "What stands beside the code is the blank."
@@ -522,8 +529,14 @@ fn blanks() {
     beside(b"values-of-longest", Made::empty().with(&longest));
     beside(b"values-beside-16", Made::level(&longest));
     beside(b"values-beside-17", Made::level(&longest).with(b"x"));
-    beside(b"values-beside-16-in-26-lines", Made::level(&longest[..SHORT_LONGEST]));
-    beside(b"values-beside-14", Made::level(&longest[..SHORT_LONGEST]).with(b"x"));
+    beside(
+        b"values-beside-16-in-26-lines",
+        Made::level(&longest[..SHORT_LONGEST]),
+    );
+    beside(
+        b"values-beside-14",
+        Made::level(&longest[..SHORT_LONGEST]).with(b"x"),
+    );
 }
 
 // ---- one decimal

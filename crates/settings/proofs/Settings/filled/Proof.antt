@@ -17,7 +17,7 @@ use Rattle.settings.proofs.Settings.filled.Tie as tie
 
 abbrev Inv-loop : tie.InvT-loop
 Inv-loop self n gains₀ first k₀ gains k =
-    (n ≤ k) × (k - n ≤ sets - n) × (length gains ≡ sets) × (take k gains ≡ take n gains₀ ++ replicate (k - n) first)
+    (n ≤ k) × (k - n ≤ sets - n) × (length gains ≡ sets) × (take k gains ≡ take n gains₀ ++ replicate (k - n) (gainsAt gains₀ 0))
 
 abbrev μ-loop : tie.MeasureT-loop
 μ-loop self n gains₀ first k₀ gains k = sets - k

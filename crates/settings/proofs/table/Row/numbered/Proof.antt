@@ -20,9 +20,7 @@ put-unsigned-requires c κs = search needs
 
 -- the set's number has few digits
 few : (c : tie.After-put-unsigned) → c .put-unsigned .result ≤ 10
-few c =
-    let k = c .before .before .before .args .k in
-    omega (arith, c .put-unsigned .ensures .0, shown-room k (omega arith))
+few c = rw (c .put-unsigned .ensures .0) (shown-room _ (omega arith))
 
 add-end : tie.Need-add-end
 add-end c = omega (arith, few (c .before))
