@@ -106,6 +106,33 @@ impl Made {
         Made { bytes, len }
     }
 
+    fn is(self, text: &[u8]) -> bool {
+        let bytes = self.bytes;
+        let len = self.len;
+        if len <= ROOM {
+            return check::same(&bytes[0..len], text);
+        }
+        false
+    }
+
+    // Settings C: all of its text, or its first 26 lines.
+    fn c(short: bool) -> Made {
+        let c = C;
+        if short {
+            return Made::empty().with(&c[..SHORT_C]);
+        }
+        Made::empty().with(&c)
+    }
+
+    // The longest text, or its first 26 lines.
+    fn longest(short: bool) -> Made {
+        let longest = LONGEST;
+        if short {
+            return Made::empty().with(&longest[..SHORT_LONGEST]);
+        }
+        Made::empty().with(&longest)
+    }
+
     // A text up to line n, and then other bytes.
     fn before(text: &[u8], n: usize, new: &[u8]) -> Made {
         let a = start_of(text, b'\n', n);
@@ -120,9 +147,25 @@ impl Made {
         Made::before(text, n, new).with(&rest[z..])
     }
 
-    // The longest text, or its first lines, with hi = lo.
-    fn level(text: &[u8]) -> Made {
-        Made::changed(text, 3, b"hi=-1000000\n")
+    // Settings C, short or not, with other bytes in the place of line n; or, where cut, up to line n, and then other bytes.
+    fn case(short: bool, cut: bool, n: usize, new: &[u8]) -> Made {
+        let c = C;
+        if cut {
+            return Made::before(&c, n, new);
+        }
+        if short {
+            return Made::changed(&c[..SHORT_C], n, new);
+        }
+        Made::changed(&c, n, new)
+    }
+
+    // The longest text, short or not, with hi = lo.
+    fn level(short: bool) -> Made {
+        let longest = LONGEST;
+        if short {
+            return Made::changed(&longest[..SHORT_LONGEST], 3, b"hi=-1000000\n");
+        }
+        Made::changed(&longest, 3, b"hi=-1000000\n")
     }
 }
 
@@ -179,19 +222,15 @@ fn number(word: &[u8]) -> usize {
     (word[0] % 48) as usize * 10 + (word[1] % 48) as usize
 }
 
-// Reads, for each case, a text with the case's bytes in the place of its line; or, where cut, the text up to that line and then
-// the case's bytes.
-fn cases(text: &[u8], cut: bool, list: &[u8]) {
+// Reads, for each case, settings C, short or not, with the case's bytes in the place of its line; or, where cut, C up to that
+// line and then the case's bytes.
+fn cases(short: bool, cut: bool, list: &[u8]) {
     let mut rest = list;
     while 0 < rest.len() {
         let line = after(rest);
         let bytes = after(line);
         let n = number(field(line));
-        if cut {
-            read_made(field(rest), Made::before(text, n, field(bytes)));
-        } else {
-            read_made(field(rest), Made::changed(text, n, field(bytes)));
-        }
+        read_made(field(rest), Made::case(short, cut, n, field(bytes)));
         let next = after(bytes);
         if rest.len() <= next.len() {
             return;
@@ -202,12 +241,11 @@ fn cases(text: &[u8], cut: bool, list: &[u8]) {
 
 // "Text that stops early is 14 at the line where it stops."
 fn early() {
-    let c = C;
     read(b"empty", b"");
     read(b"one-line-feed", b"\n");
     read(b"one-byte", b"a");
     cases(
-        &c[..SHORT_C],
+        true,
         true,
         b"stops-after-line-5|06||\
           stops-after-line-1|02||\
@@ -218,7 +256,7 @@ fn early() {
           stops-after-a-value|06|rate=50|",
     );
     cases(
-        &c[..SHORT_C],
+        true,
         false,
         b"no-last-line-feed|26|kt3=0|\
           no-last-line-feed-and-too-large|26|kt3=9999999|",
@@ -227,9 +265,8 @@ fn early() {
 
 // Lines of wrong form: 14.
 fn forms() {
-    let c = C;
     cases(
-        &c[..SHORT_C],
+        true,
         false,
         b"crlf|01|action=0\r\n|\
           crlf-on-the-last-line|26|kt3=0\r\n|\
@@ -256,9 +293,8 @@ fn forms() {
 
 // Values of wrong form: 14.
 fn values() {
-    let c = C;
     cases(
-        &c[..SHORT_C],
+        true,
         false,
         b"no-value|03|hi=\n|\
           minus-alone|03|hi=-\n|\
@@ -283,9 +319,8 @@ fn values() {
 
 // Values outside their ranges: 15; and at the ends of their ranges: 0.
 fn ranges() {
-    let c = C;
     cases(
-        &c[..SHORT_C],
+        true,
         false,
         b"seven-digits-too-large|03|hi=9999999\n|\
           seven-digits-too-small|02|lo=-9999999\n|\
@@ -315,16 +350,15 @@ fn ranges() {
 
 // The order of the tests: lines in order, 14 before 15 in each, then 17, then 16.
 fn orders() {
-    let c = C;
     cases(
-        &c[..SHORT_C],
+        true,
         true,
         b"15-on-line-2-14-on-line-3|02|lo=9999999\nhi=\n|\
           14-on-line-2-15-on-line-3|02|lo=\nhi=9999999\n|\
           keys-in-another-order|02|hi=1000\nlo=0\nout=100\n|",
     );
     cases(
-        &c[..SHORT_C],
+        true,
         false,
         b"too-large-and-a-space|03|hi=9999999 \n|\
           a-line-twice|07|kp0=65536\nkp0=65536\n|\
@@ -345,17 +379,16 @@ fn orders() {
           line-26-twice|27|kt3=0\n|",
     );
     read_made(
-        b"lo-is-hi-and-a-byte-after-line-26",
-        Made::changed(&c[..SHORT_C], 3, b"hi=0\n").with(b"x"),
+        b"lo-is-hi-and-a-byte",
+        Made::case(true, false, 3, b"hi=0\n").with(b"x"),
     );
 }
 
 // "86 lines": each line after 26 is tested as those before it are.
 fn long_forms() {
-    let c = C;
-    read(b"86-lines", &c);
+    read_made(b"86-lines", Made::c(false));
     cases(
-        &c,
+        false,
         true,
         b"stops-after-line-26|27||\
           stops-after-line-27|28||\
@@ -365,7 +398,7 @@ fn long_forms() {
           stops-in-line-86|86|kt15=0|",
     );
     cases(
-        &c,
+        false,
         false,
         b"line-27-left-out|27||\
           key-of-set-0-on-line-27|27|kp0=65536\n|\
@@ -383,27 +416,17 @@ fn long_forms() {
     );
 }
 
-// 1,044 bytes are accepted, 1,045 have lo = hi, and a byte more comes before that.
+// 1,044 bytes are accepted, 1,045 have lo = hi, and a byte more comes before that. So too 306 and 307 of 26 lines, but that a
+// byte more is line 27.
 fn lengths() {
-    let longest = LONGEST;
     let many = [b'a'; 4096];
-    read(b"1044-bytes", &longest);
-    read(b"1043-of-1044-bytes", &longest[..1043]);
-    read_made(b"1045-bytes", Made::level(&longest));
-    read_made(b"1046-bytes", Made::level(&longest).with(b"x"));
+    read_made(b"1044-bytes", Made::longest(false));
+    read_made(b"1045-bytes", Made::level(false));
+    read_made(b"1046-bytes", Made::level(false).with(b"x"));
+    read_made(b"306-bytes", Made::longest(true));
+    read_made(b"307-bytes", Made::level(true));
+    read_made(b"308-bytes", Made::level(true).with(b"x"));
     read(b"4096-bytes-and-no-line-feed", &many);
-}
-
-// So too 306 and 307 of 26 lines, but that a byte more is line 27.
-fn short_lengths() {
-    let longest = LONGEST;
-    read(b"306-bytes", &longest[..SHORT_LONGEST]);
-    read(b"305-of-306-bytes", &longest[..305]);
-    read_made(b"307-bytes", Made::level(&longest[..SHORT_LONGEST]));
-    read_made(
-        b"308-bytes",
-        Made::level(&longest[..SHORT_LONGEST]).with(b"x"),
-    );
 }
 
 // ---- the writer
@@ -431,16 +454,14 @@ fn write(name: &[u8], s: Settings, room: usize) {
     }
 }
 
-fn settings_of(bytes: &[u8]) -> Settings {
-    read_settings(bytes).settings
+fn settings_of(made: Made) -> Settings {
+    reading_of(made).settings
 }
 
 // 18 for a buffer shorter than the text; else the length, and every byte after the text stays.
 fn rooms() {
-    let c = C;
-    let longest = LONGEST;
-    let s = settings_of(&c[..SHORT_C]);
-    let l = settings_of(&longest);
+    let s = settings_of(Made::c(true));
+    let l = settings_of(Made::longest(false));
     write(b"c-in-1100-bytes", s, ROOM);
     write(b"c-in-800-bytes", s, 800);
     write(b"c-in-799-bytes", s, 799);
@@ -453,8 +474,7 @@ fn rooms() {
 
 // 11, then 16, then 18.
 fn wrongs() {
-    let c = C;
-    let s = settings_of(&c);
+    let s = settings_of(Made::c(false));
     let mut high = s;
     high.hi = 1000001;
     let mut low = s;
@@ -477,13 +497,13 @@ fn wrongs() {
 
 // ---- there and back
 
-// Reads a text and writes its settings: the code and length, or 99 where the bytes are others than all of these.
-fn again(name: &[u8], bytes: &[u8], all: &[u8]) {
+// Writes the settings of a text: the code and length, or 99 where the bytes are others than those of another text.
+fn again(name: &[u8], made: Made, all: Made) {
     let mut buffer = [b'x'; ROOM];
-    let w = text::writer::write_settings(settings_of(bytes), &mut buffer);
+    let w = text::writer::write_settings(settings_of(made), &mut buffer);
     let n = w.len;
     if n <= ROOM {
-        if check::same(&buffer[0..n], all) {
+        if all.is(&buffer[0..n]) {
             say(name, w.code, n);
             return;
         }
@@ -507,36 +527,24 @@ fn beside(name: &[u8], made: Made) {
 }
 
 fn trips() {
-    let c = C;
-    let whole_c = C;
-    let longest = LONGEST;
-    let whole_longest = LONGEST;
-    again(b"c-again", &c, &whole_c);
-    again(b"short-c-again", &c[..SHORT_C], &whole_c);
-    again(b"longest-again", &longest, &whole_longest);
+    again(b"c-again", Made::c(false), Made::c(false));
+    again(b"short-c-again", Made::c(true), Made::c(false));
+    again(b"longest-again", Made::longest(false), Made::longest(false));
     again(
         b"short-longest-again",
-        &longest[..SHORT_LONGEST],
-        &whole_longest,
+        Made::longest(true),
+        Made::longest(false),
     );
 }
 
 // "What stands beside the code is the blank."
 fn blanks() {
-    let c = C;
-    let longest = LONGEST;
-    beside(b"values-of-c", Made::empty().with(&c[..SHORT_C]));
-    beside(b"values-of-longest", Made::empty().with(&longest));
-    beside(b"values-beside-16", Made::level(&longest));
-    beside(b"values-beside-17", Made::level(&longest).with(b"x"));
-    beside(
-        b"values-beside-16-in-26-lines",
-        Made::level(&longest[..SHORT_LONGEST]),
-    );
-    beside(
-        b"values-beside-14",
-        Made::level(&longest[..SHORT_LONGEST]).with(b"x"),
-    );
+    beside(b"values-of-c", Made::c(true));
+    beside(b"values-of-longest", Made::longest(false));
+    beside(b"values-beside-16", Made::level(false));
+    beside(b"values-beside-17", Made::level(false).with(b"x"));
+    beside(b"values-beside-16-in-26-lines", Made::level(true));
+    beside(b"values-beside-14", Made::level(true).with(b"x"));
 }
 
 // ---- one decimal
@@ -599,7 +607,6 @@ fn main() {
     orders();
     long_forms();
     lengths();
-    short_lengths();
     rooms();
     wrongs();
     trips();

@@ -1,8 +1,11 @@
 -- 01's own numbers, computed by the definitions. Fine amounts are written as multiples of F = 65,536, or of F / 2.
+use Prim.Native.Nat.{ℕ, _<_, _≤_}
 use mathlib.Core.Path.{_≡_, refl}
 use mathlib.Core.Bool.{true, false}
 use mathlib.Core.List.{List, [], _∷_}
+use native.Mathlib.Omega.{arith}
 use lib.IntN.{ℤ, pos, negsuc, _*ℤ_}
+use Rattle.whole.proofs.Parts.{yes-le, no-le}
 use Rattle.command.specs.declared.Command.{Command}
 use Rattle.command.specs.declared.Command.the-variants.{Sample, Hold, Automatic, Target, Set}
 use Rattle.pid.specs.declared.record.Loop.{Loop}
@@ -38,6 +41,16 @@ negative-half = refl
 pub negative-above-half : rounded (negsuc 32768) ≡ negsuc 0
 unfolding rounded
 negative-above-half = refl
+
+-- "so code 9 starts at 16" (02, request 5); numbers below 0 are 9 as they were
+pub code-nine : (l : Loop) (k : ℕ) →
+    (k < 16 → refusalOf l (Set (pos k)) ≡ 0) × (16 ≤ k → refusalOf l (Set (pos k)) ≡ 9) × (refusalOf l (Set (negsuc k)) ≡ 9)
+unfolding refusalOf
+code-nine l k = (
+  λ h. rw (yes-le (pos 0) (pos k) (omega arith), yes-le (pos k) (pos 15) (omega (arith, h))),
+  λ h. rw (yes-le (pos 0) (pos k) (omega arith), no-le (pos k) (pos 15) (omega (arith, h))),
+  refl,
+)
 
 -- ---- "At the upper limit, ordinary sample 400, w = target = 500, y = 400"
 

@@ -6,10 +6,10 @@ use Rattle.text_cases.proofs.cases.Statement.{statement}
 use Rattle.text_cases.proofs.cases.Tie as tie
 
 abbrev Inv-loop : tie.InvT-loop
-Inv-loop text cut list rest₀ rest = Unit {0}
+Inv-loop short cut list rest₀ rest = Unit {0}
 
 abbrev μ-loop : tie.MeasureT-loop
-μ-loop text cut list rest₀ rest = length rest
+μ-loop short cut list rest₀ rest = length rest
 
 loop-holds : tie.Need-loop-holds Inv-loop μ-loop
 loop-holds c = tt
@@ -32,23 +32,11 @@ field-requires-2 c κs = search needs
 field-requires-3 : tie.Need-field-requires-3 Inv-loop μ-loop
 field-requires-3 c κs = search needs
 
-before-requires : tie.Need-before-requires Inv-loop μ-loop
-before-requires c κs = search needs
+case-requires : tie.Need-case-requires Inv-loop μ-loop
+case-requires c κs = search needs
 
 read-made-requires : tie.Need-read-made-requires Inv-loop μ-loop
 read-made-requires c κs = search needs
-
-field-requires-4 : tie.Need-field-requires-4 Inv-loop μ-loop
-field-requires-4 c κs = search needs
-
-field-requires-5 : tie.Need-field-requires-5 Inv-loop μ-loop
-field-requires-5 c κs = search needs
-
-changed-requires : tie.Need-changed-requires Inv-loop μ-loop
-changed-requires c κs = search needs
-
-read-made-requires-2 : tie.Need-read-made-requires-2 Inv-loop μ-loop
-read-made-requires-2 c κs = search needs
 
 after-requires-3 : tie.Need-after-requires-3 Inv-loop μ-loop
 after-requires-3 c κs = search needs
@@ -78,12 +66,8 @@ cases-spec =
     number-requires
     field-requires-2
     field-requires-3
-    before-requires
+    case-requires
     read-made-requires
-    field-requires-4
-    field-requires-5
-    changed-requires
-    read-made-requires-2
     after-requires-3
     returns
     loop-less
