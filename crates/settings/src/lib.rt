@@ -3,8 +3,8 @@ ghost use mathlib.Core.Path.{_≡_};
 ghost use Prim.Native.Nat.{_+_, _<_, _≤_};
 ghost use lib.IntN.{pos};
 ghost use lib.ListN.{getD};
-ghost use Rattle.settings.specs.Table.{heads, keys, lines};
-ghost use Rattle.settings.specs.Settings.{noGains, gainValues, gainsFrom, headValues, valuesOf, settingsOf, filled, blankSettings, ordered, settingsRefusal};
+ghost use Rattle.settings.specs.Table.{heads, keys, sets, lines};
+ghost use Rattle.settings.specs.Settings.{noGains, gainValues, gainsFrom, setsFrom, headValues, valuesOf, settingsOf, filled, blankSettings, ordered, settingsRefusal};
 
 pub mod table;
 
@@ -115,9 +115,9 @@ impl Settings {
         0
     }
 
-    // The settings whose values, in the order of the lines, are these.
-    pub fn of(values: [i32; Settings::LINES]) -> Settings
-        ensures { λ r. ⌜ r ≡ settingsOf values ⌝ }
+    // The gain sets whose values, after those that stand before them, are these.
+    fn sets_of(values: [i32; Settings::LINES]) -> [Gains; Settings::SETS]
+        ensures { λ r. ⌜ r ≡ setsFrom heads sets values ⌝ }
     {
         let mut gains = [Gains::blank(); Settings::SETS];
         let mut k: usize = 0;
@@ -125,6 +125,14 @@ impl Settings {
             gains[k] = Gains::from(values, Settings::HEAD + Settings::KEYS * k);
             k += 1;
         }
+        gains
+    }
+
+    // The settings whose values, in the order of the lines, are these.
+    pub fn of(values: [i32; Settings::LINES]) -> Settings
+        ensures { λ r. ⌜ r ≡ settingsOf values ⌝ }
+    {
+        let gains = Settings::sets_of(values);
         Settings {
             action: values[0],
             lo: values[1],
