@@ -10,7 +10,7 @@ use lib.ListN.{length, getD, take, drop, replicate, drop-of-length-le, length-ap
 use lib.Seq.{drop-cons, getD-append-add, getD-take, take-all, take-at, length-take-le}
 use Rattle.settings.specs.declared.Gains.{Gains}
 use Rattle.settings.specs.declared.Settings.{Settings}
-use Rattle.settings.specs.Table.{sets, heads, keys, linesFor, lines, each}
+use Rattle.settings.specs.Table.{sets, heads, keys, linesFor, each}
 use Rattle.settings.specs.Settings.{gainValues, headValues, noGains, gainsAt, gainsFrom, setsFrom, valuesOf, settingsOf, filled}
 use Rattle.settings.proofs.Lists.{each-append}
 
@@ -37,9 +37,6 @@ sets-values (suc n) i vs e =
 pub values-front : (n : ℕ) (vs : List ℤ) → length vs ≡ linesFor n → headValues (settingsOf vs) ++ each gainValues (setsFrom heads n vs) ≡ vs
 values-front n vs e =
     ap (λ (xs : List ℤ). headValues (settingsOf vs) ++ xs) (sets-values n heads vs e) ∙ listed-all (pos 0) heads 0 vs (omega arith)
-
-pub values-settings : (vs : List ℤ) → length vs ≡ lines → valuesOf (settingsOf vs) ≡ vs
-values-settings vs e = values-front sets vs e
 
 -- ---- and back
 

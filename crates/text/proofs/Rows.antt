@@ -8,7 +8,7 @@ use borrow.Author.Tests.{leb-true, le-leb, eqb-true, ne-eqb}
 use lib.Dec.{leb, eqb}
 use lib.IntN.{ℤ, pos, negsuc}
 use lib.ListN.{length, getD, take, drop, length-append, length-take, drop-of-length-le, List·getD-append}
-use lib.Seq.{sets-eq, take-at, length-take-le}
+use lib.Seq.{sets-eq, take-at}
 use lib.Signed.{leZ}
 use Rattle.whole.specs.Words.{bytes}
 use Rattle.whole.proofs.Truth.{both, and}

@@ -1,5 +1,5 @@
 -- The text there and back: settings written are read back the same, and a text read is written back as the same bytes.
-use Prim.Native.Nat.{ℕ, zero, suc, _+_, _-_, _^_, _<_, _≤_}
+use Prim.Native.Nat.{ℕ, suc, _+_, _-_, _^_, _<_, _≤_}
 use mathlib.Core.Path.{_≡_, refl, sym, ap, ap₂, subst, _∙_}
 use mathlib.Core.Bool.{true, false}
 use mathlib.Core.List.{List, [], _∷_, _++_, append-assoc, append-nil}
@@ -23,11 +23,10 @@ use Rattle.settings.proofs.Lists.{all, all-take}
 use Rattle.settings.proofs.Rows.{rows-long, rows-split, values-long}
 use Rattle.settings.proofs.Values.{values-filled, settings-values, filled-first, filled-all, filled-long, filled-at, filled-twice}
 use Rattle.settings.proofs.Ranges.{all-append, rows-front, filled-in}
-use Rattle.word.specs.Decimal.{isDigit, allDigits, isDecimal, numberOf, shown, decimal}
+use Rattle.word.specs.Decimal.{isDecimal, numberOf, decimal}
 use Rattle.word.specs.End.{endAt, feed, begins}
-use Rattle.word.proofs.Words.{without, without-both, end-without, before-first, after-first, at-byte, begins-self, begins-split}
-use Rattle.word.proofs.Digits.{digit}
-use Rattle.word.proofs.Decimals.{shown-form, decimal-read, read-decimal}
+use Rattle.word.proofs.Words.{without-both, end-without, before-first, after-first, at-byte, begins-self, begins-split}
+use Rattle.word.proofs.Decimals.{decimal-read, read-decimal}
 use Rattle.text.specs.declared.reader.Reading.{Reading}
 use Rattle.text.specs.Lines.{keyOf, lineOf, linesOf, textFor, textOf, longestText}
 use Rattle.text.specs.Reader.{lineIn, ended, afterLine, wordIn, formed, lineCode, lineValue, afterLines, refused, readEnd, readFrom, setsIn, readText}

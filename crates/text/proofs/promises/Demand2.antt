@@ -5,7 +5,7 @@ use Prim.Native.Nat.{ℕ, _+_, _<_, _≤_}
 use mathlib.Core.Path.{_≡_, refl, sym, ap, _∙_}
 use mathlib.Core.Bool.{true}
 use mathlib.Core.List.{List, [], _++_}
-use mathlib.Core.Logic.{_↔_, _⊎_, inl, inr}
+use mathlib.Core.Logic.{_↔_, _⊎_}
 use lib.IntN.{ℤ}
 use lib.ListN.{length, getD, take, drop}
 use lib.Seq.{take-at}
@@ -18,7 +18,7 @@ use Rattle.text.specs.Lines.{linesOf, textFor, textOf, longestText, long
 use Rattle.text.specs.Reader.{lineCode, afterLines, refused, readEnd, readText}
 use Rattle.text.specs.Writer.{writtenOf, bufferAfter}
 use Rattle.text.proofs.Texts.{text-answer}
-use Rattle.text.proofs.Writes.{fits-in, sound-long, sound-short, wrote, wrote-nothing}
+use Rattle.text.proofs.Writes.{fits-in, sound-short, wrote, wrote-nothing}
 use Rattle.text.proofs.Trip as trip
 use Rattle.text.proofs.SettingsC.{textC, c-written, c-read, longest, longest-written, longest-read}
 

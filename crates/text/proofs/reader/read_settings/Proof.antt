@@ -17,7 +17,7 @@ use Rattle.settings.specs.Table.{sets, shortSets, linesFor, lines, rowsOf, rows
 use Rattle.settings.specs.Settings.{settingsOf, filled}
 use Rattle.settings.proofs.Values.{filled-first}
 use Rattle.text.specs.declared.reader.Line.{Line}
-use Rattle.text.specs.Reader.{lineCode, lineValue, lineRead, refused, readEnd, readFrom, setsIn, readText}
+use Rattle.text.specs.Reader.{lineCode, lineValue, lineRead, refused, readEnd, readFrom, readText}
 use Rattle.whole.proofs.Lists.{set-take}
 use Rattle.text.proofs.Rows.{key-short, rows-next, row-of}
 use Rattle.text.proofs.Texts.{line-yes, feed-there, value-taken, part-line, after-shorter, sets-some, line-refused, line-taken, lines-done}

@@ -1,4 +1,3 @@
-use Prim.Native.Nat.{ℕ, _<_, _≤_}
 use mathlib.Core.Path.{sym, ap}
 use native.Mathlib.Omega.{arith}
 use borrow.Author.Needs.{needs}

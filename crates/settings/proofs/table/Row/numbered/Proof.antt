@@ -1,7 +1,6 @@
 use Prim.Native.Nat.{_≤_}
 use mir.Facts.{toZ-ofZ}
 use native.Mathlib.Omega.{arith}
-use lib.ListN.{length}
 use Rattle.word.specs.Decimal.{shown}
 use Rattle.word.proofs.Shows.{shown-room}
 use Rattle.settings.proofs.Rows.{numbered-is}
