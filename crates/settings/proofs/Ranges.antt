@@ -18,7 +18,7 @@ use Rattle.settings.specs.declared.table.Row.{Row}
 use Rattle.settings.specs.Table.{reach, fastest, gain, share, headRows, gainRows, table, sets, heads, keys, linesFor, setRows, each, numbersFrom, rowsOf, rows, noRow, inRow}
 use Rattle.settings.specs.Settings.{noGains, gainsAt, gainsFrom, setsFrom, gainValues, headValues, valuesOf, settingsOf, filled, allIn, inTable}
 use Rattle.whole.proofs.Lists.{next}
-use Rattle.settings.proofs.Rows.{rows-long, rows-split}
+use Rattle.settings.proofs.Rows.{rows-long, rows-parts}
 use Rattle.settings.proofs.Values.{values-front, values-filled}
 
 -- ---- the test of one value after another
@@ -57,8 +57,7 @@ all-front (r ∷ rs) qs (z ∷ vs) e =
 
 pub rows-front : (n : ℕ) (vs : List ℤ) → n ≤ sets → allIn rows vs ≡ true → allIn (rowsOf n) vs ≡ true
 rows-front n vs h e =
-    let p : n + (sets - n) ≡ sets = omega arith in
-    all-front (rowsOf n) (each setRows (numbersFrom n (sets - n))) vs (sym (ap (λ (rs : List Row). allIn rs vs) (ap rowsOf (sym p) ∙ rows-split n (sets - n))) ∙ e)
+    all-front (rowsOf n) (each setRows (numbersFrom n (sets - n))) vs (sym (ap (λ (rs : List Row). allIn rs vs) (rows-parts n h)) ∙ e)
 
 -- the test of the gain sets from set k on
 abbrev pub setsIn : List Gains → ℕ → Bool
@@ -108,8 +107,7 @@ filled-in zero vs l m h e = absurd (omega arith)
 filled-in (suc n) vs l m h e =
     let g = gainsFrom heads vs in
     let more = numbersFrom (suc n) (sets - suc n) in
-    let p : suc n + (sets - suc n) ≡ sets = omega arith in
-    ap₂ allIn (ap rowsOf (sym p) ∙ rows-split (suc n) (sets - suc n)) (values-filled (suc n) vs m h)
+    ap₂ allIn (rows-parts (suc n) m) (values-filled (suc n) vs m h)
     ∙ all-append (rowsOf (suc n)) (each setRows more) vs (each gainValues (replicate (sets - suc n) g)) (h ∙ sym (rows-long (suc n)))
     ∙ rw (e, again-in g (suc n) (sets - suc n) (first-in n vs h e))
 

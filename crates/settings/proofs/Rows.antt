@@ -32,12 +32,15 @@ rows-long n =
     simp length-append (omega (arith, h, numbers-long 0 n))
 
 -- the rows of the first gain sets, and those of the sets after them
-pub rows-split : (m n : ℕ) → rowsOf (m + n) ≡ rowsOf m ++ each setRows (numbersFrom m n)
+rows-split : (m n : ℕ) → rowsOf (m + n) ≡ rowsOf m ++ each setRows (numbersFrom m n)
 unfolding rowsOf
 rows-split m n =
     ap (λ (ks : List ℕ). headRows ++ each setRows ks) (numbers-append 0 m n ∙ ap (λ (k : ℕ). numbersFrom 0 m ++ numbersFrom k n) (zero-add m))
     ∙ ap (λ (rs : List Row). headRows ++ rs) (each-append setRows (numbersFrom 0 m) (numbersFrom m n))
     ∙ sym (append-assoc headRows (each setRows (numbersFrom 0 m)) (each setRows (numbersFrom m n)))
+
+pub rows-parts : (n : ℕ) → n ≤ sets → rows ≡ rowsOf n ++ each setRows (numbersFrom n (sets - n))
+rows-parts n h = let p : sets ≡ n + (sets - n) = omega arith in ap rowsOf p ∙ rows-split n (sets - n)
 
 pub row-head : (i : ℕ) → i < heads → getD table i noRow ≡ getD rows i noRow
 unfolding table rowsOf

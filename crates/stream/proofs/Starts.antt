@@ -14,7 +14,7 @@ use Rattle.settings.proofs.Rows.{rows-long}
 use Rattle.text.specs.declared.reader.Reading.{Reading}
 use Rattle.text.specs.Reader.{afterLine, lineCode, lineValue, readEnd, readFrom, setsIn, readText}
 use Rattle.text.proofs.Texts.{sets-some}
-use Rattle.text.proofs.Trip.{text-back}
+use Rattle.text.proofs.Forms.{text-back}
 
 line-from : (k : ℕ) (rs : List Row) (n : ℕ) (vs : List ℤ) (s : List ℕ) → readFrom k rs n vs s .line ≤ n + length rs
 unfolding readEnd

@@ -16,7 +16,7 @@ use Rattle.whole.proofs.Lists.{next}
 use Rattle.settings.specs.declared.table.Row.{Row}
 use Rattle.settings.specs.Table.{longestKey, headRows, gainRows, sets, linesFor, lines, numbered, setRows, each, numbersFrom, rowsOf, rows, noRow}
 use Rattle.settings.proofs.Lists.{all, all-at, all-both}
-use Rattle.settings.proofs.Rows.{rows-long, rows-split}
+use Rattle.settings.proofs.Rows.{rows-long, rows-parts}
 use Rattle.word.specs.Decimal.{isDigit, allDigits, shown}
 use Rattle.word.specs.End.{feed}
 use Rattle.word.proofs.Words.{without, without-both}
@@ -143,9 +143,8 @@ rows-done n i h = let k : length (rowsOf n) ≤ i = omega (arith, rows-long n) i
 -- the rows of fewer gain sets are the first of all
 pub row-of : (n i : ℕ) → n ≤ sets → i < linesFor n → getD (rowsOf n) i noRow ≡ getD rows i noRow
 row-of n i m h =
-    let p : n + (sets - n) ≡ sets = omega arith in
     sym
-    (ap (λ (rs : List Row). getD rs i noRow) (ap rowsOf (sym p) ∙ rows-split n (sets - n))
+    (ap (λ (rs : List Row). getD rs i noRow) (rows-parts n m)
     ∙ List·getD-append (rowsOf n) (each setRows (numbersFrom n (sets - n))) noRow i (omega (arith, rows-long n)))
 
 -- ---- the lines of the rows

@@ -14,7 +14,7 @@ use Rattle.word.specs.Decimal.{shown}
 use Rattle.text.specs.declared.reader.Reading.{Reading}
 use Rattle.text.specs.Lines.{textFor, textOf, longestText, longestShort}
 use Rattle.text.specs.Reader.{readText}
-use Rattle.text.proofs.Trip.{text-read, short-read}
+use Rattle.text.proofs.Forms.{text-read, short-read}
 
 abbrev pub textC : List ℕ
 textC =

@@ -1,38 +1,32 @@
--- The text there and back: settings written are read back the same, and a text read is written back as the same bytes.
-use Prim.Native.Nat.{ℕ, suc, _+_, _-_, _^_, _<_, _≤_}
-use mathlib.Core.Path.{_≡_, refl, sym, ap, ap₂, subst, _∙_}
-use mathlib.Core.Bool.{true, false}
+-- Lines there and back: what is written for values is read as these values, and a line that is accepted is written back.
+use Prim.Native.Nat.{ℕ, suc, _+_, _^_, _<_, _≤_}
+use mathlib.Core.Path.{_≡_, refl, sym, ap, ap₂, _∙_}
+use mathlib.Core.Bool.{true}
 use mathlib.Core.List.{List, [], _∷_, _++_, append-assoc, append-nil}
-use mathlib.Core.Logic.{_⊎_, inl, inr}
 use native.Mathlib.Nat.{add-zero}
 use native.Mathlib.Omega.{arith}
-use borrow.Author.Tests.{lt-ltb, ltb-true, ltb-false, eqb-true, eqb-false}
-use lib.Dec.{ltb, eqb}
+use borrow.Author.Tests.{lt-ltb}
 use lib.IntN.{ℤ, pos, negsuc, natAbs}
-use lib.ListN.{length, getD, take, drop, length-append, length-drop, take-append-drop}
+use lib.ListN.{length, length-append}
 use lib.Signed.{leZ}
-use lib.Seq.{drop-at, take-append-le, length-take-le, take-all}
-use Rattle.whole.proofs.Truth.{both, and, by-test}
+use lib.Seq.{drop-at}
+use Rattle.whole.proofs.Truth.{both, and}
 use Rattle.whole.specs.Numbers.{inside}
 use Rattle.whole.proofs.Parts.{zs, inside-yes}
 use Rattle.settings.specs.declared.table.Row.{Row}
-use Rattle.settings.specs.declared.Settings.{Settings}
-use Rattle.settings.specs.Table.{sets, shortSets, linesFor, shortLines, lines, rowsOf, rows, noRow, inRow}
-use Rattle.settings.specs.Settings.{gainsAt, allIn, inTable, settingsRefusal, valuesOf, settingsOf, filled}
-use Rattle.settings.proofs.Lists.{all, all-take}
-use Rattle.settings.proofs.Rows.{rows-long, rows-split, values-long}
-use Rattle.settings.proofs.Values.{values-filled, settings-values, filled-first, filled-all, filled-long, filled-at, filled-twice}
-use Rattle.settings.proofs.Ranges.{all-append, rows-front, filled-in}
+use Rattle.settings.specs.Table.{inRow}
+use Rattle.settings.specs.Settings.{allIn, settingsOf, filled}
+use Rattle.settings.proofs.Lists.{all}
+use Rattle.settings.proofs.Ranges.{all-append}
 use Rattle.word.specs.Decimal.{isDecimal, numberOf, decimal}
 use Rattle.word.specs.End.{endAt, feed, begins}
 use Rattle.word.proofs.Words.{without-both, end-without, before-first, after-first, at-byte, begins-self, begins-split}
 use Rattle.word.proofs.Decimals.{decimal-read, read-decimal}
 use Rattle.text.specs.declared.reader.Reading.{Reading}
-use Rattle.text.specs.Lines.{keyOf, lineOf, linesOf, textFor, textOf, longestText}
-use Rattle.text.specs.Reader.{lineIn, ended, afterLine, wordIn, formed, lineCode, lineValue, afterLines, refused, readEnd, readFrom, setsIn, readText}
-use Rattle.text.proofs.Rows.{plain, plain-shown, lined, is-lined, rows-lined, rows-next, row-of}
-use Rattle.text.proofs.Writes.{sound, sound-long, sound-short}
-use Rattle.text.proofs.Texts.{line-yes, feed-there, goes-on, ends-short, sets-some, end-yes, end-taken, lines-done, line-refused, line-taken, first-taken}
+use Rattle.text.specs.Lines.{keyOf, lineOf, linesOf}
+use Rattle.text.specs.Reader.{lineIn, ended, afterLine, wordIn, formed, lineCode, lineValue, afterLines, readEnd, readFrom}
+use Rattle.text.proofs.Rows.{plain, plain-shown, lined, is-lined}
+use Rattle.text.proofs.Texts.{line-yes, feed-there, end-yes, line-taken, first-taken}
 
 -- ---- bytes without a line feed
 
@@ -107,7 +101,7 @@ line-back r s e =
 -- ---- the lines
 
 -- what is written for values in their ranges is read as those values, whatever rows and bytes follow
-lines-read : (k : ℕ) (rs more : List Row) (n : ℕ) (before vs : List ℤ) (s : List ℕ) → all lined rs ≡ true → allIn rs vs ≡ true → length vs ≡ length rs →
+pub lines-read : (k : ℕ) (rs more : List Row) (n : ℕ) (before vs : List ℤ) (s : List ℕ) → all lined rs ≡ true → allIn rs vs ≡ true → length vs ≡ length rs →
     readFrom k (rs ++ more) n before (linesOf rs vs ++ s) ≡ readFrom k more (n + length rs) (before ++ vs) s
 lines-read k [] more n before [] s l i h = rw (append-nil before, add-zero n)
 lines-read k [] more n before (z ∷ vs) s l i h = absurd (omega arith)
@@ -125,7 +119,7 @@ lines-read k (r ∷ rs) more n before (z ∷ vs) s l i h =
     ∙ ap₂ (λ (j : ℕ) (x : List ℤ). readFrom k more j x s) m (append-assoc before (z ∷ []) vs))
 
 -- and so many lines stand before what follows
-lines-after : (rs : List Row) (vs : List ℤ) (s : List ℕ) → all lined rs ≡ true → allIn rs vs ≡ true → length vs ≡ length rs →
+pub lines-after : (rs : List Row) (vs : List ℤ) (s : List ℕ) → all lined rs ≡ true → allIn rs vs ≡ true → length vs ≡ length rs →
     afterLines (length rs) (linesOf rs vs ++ s) ≡ s
 lines-after [] [] s l i h = refl
 lines-after [] (z ∷ vs) s l i h = absurd (omega arith)
@@ -142,12 +136,12 @@ valuesIn [] s = []
 valuesIn (r ∷ rs) s = lineValue r s ∷ valuesIn rs (afterLine s)
 
 -- a text that is accepted is what is written for its values, which lie in their ranges
-record Taken (k : ℕ) (rs : List Row) (n : ℕ) (before : List ℤ) (s : List ℕ) : Type 0 where
-  same : s ≡ linesOf rs (valuesIn rs s)
-  within : allIn rs (valuesIn rs s) ≡ true
-  end : readFrom k rs n before s ≡ readEnd (filled k (settingsOf (before ++ valuesIn rs s))) 0
+pub record Taken (k : ℕ) (rs : List Row) (n : ℕ) (before : List ℤ) (s : List ℕ) : Type 0 where
+  pub same : s ≡ linesOf rs (valuesIn rs s)
+  pub within : allIn rs (valuesIn rs s) ≡ true
+  pub end : readFrom k rs n before s ≡ readEnd (filled k (settingsOf (before ++ valuesIn rs s))) 0
 
-lines-back : (k : ℕ) (rs : List Row) (n : ℕ) (before : List ℤ) (s : List ℕ) → readFrom k rs n before s .code ≡ 0 → Taken k rs n before s
+pub lines-back : (k : ℕ) (rs : List Row) (n : ℕ) (before : List ℤ) (s : List ℕ) → readFrom k rs n before s .code ≡ 0 → Taken k rs n before s
 lines-back k [] n before [] e =
     record { same = refl; within = refl; end = ap (λ (x : List ℤ). readEnd (filled k (settingsOf x)) 0) (sym (append-nil before)) }
 lines-back k [] n before (b ∷ s) e = absurd (omega (arith, end-yes (filled k (settingsOf before)) (suc (length s)) e .none))
@@ -161,12 +155,12 @@ lines-back k (r ∷ rs) n before s e =
       end = t ∙ w .end ∙ ap (λ (x : List ℤ). readEnd (filled k (settingsOf x)) 0) (append-assoc before (lineValue r s ∷ []) (valuesIn rs (afterLine s)));
     }
 
-valued : (rs : List Row) (s : List ℕ) → length (valuesIn rs s) ≡ length rs
+pub valued : (rs : List Row) (s : List ℕ) → length (valuesIn rs s) ≡ length rs
 valued [] s = refl
 valued (r ∷ rs) s = ap suc (valued rs (afterLine s))
 
 -- the lines of the first values, and of the others
-lines-both : (rs qs : List Row) (vs ws : List ℤ) → length vs ≡ length rs → linesOf (rs ++ qs) (vs ++ ws) ≡ linesOf rs vs ++ linesOf qs ws
+pub lines-both : (rs qs : List Row) (vs ws : List ℤ) → length vs ≡ length rs → linesOf (rs ++ qs) (vs ++ ws) ≡ linesOf rs vs ++ linesOf qs ws
 lines-both [] qs [] ws h = refl
 lines-both [] qs (z ∷ vs) ws h = absurd (omega arith)
 lines-both (r ∷ rs) qs [] ws h = absurd (omega arith)
@@ -174,242 +168,21 @@ lines-both (r ∷ rs) qs (z ∷ vs) ws h =
     ap (λ (x : List ℕ). lineOf r z ++ x) (lines-both rs qs vs ws (omega arith)) ∙ sym (append-assoc (lineOf r z) (linesOf rs vs) (linesOf qs ws))
 
 -- values that have no row count for nothing
-lines-front : (rs : List Row) (vs ws : List ℤ) → length vs ≡ length rs → linesOf rs (vs ++ ws) ≡ linesOf rs vs
+pub lines-front : (rs : List Row) (vs ws : List ℤ) → length vs ≡ length rs → linesOf rs (vs ++ ws) ≡ linesOf rs vs
 lines-front [] [] ws h = refl
 lines-front [] (z ∷ vs) ws h = absurd (omega arith)
 lines-front (r ∷ rs) [] ws h = absurd (omega arith)
 lines-front (r ∷ rs) (z ∷ vs) ws h = ap (λ (x : List ℕ). lineOf r z ++ x) (lines-front rs vs ws (omega arith))
 
 -- the test of the first values
-all-start : (rs qs : List Row) (vs ws : List ℤ) → length vs ≡ length rs → allIn (rs ++ qs) (vs ++ ws) ≡ true → allIn rs vs ≡ true
+pub all-start : (rs qs : List Row) (vs ws : List ℤ) → length vs ≡ length rs → allIn (rs ++ qs) (vs ++ ws) ≡ true → allIn rs vs ≡ true
 all-start rs qs vs ws h e = both (allIn rs vs) (allIn qs ws) (sym (all-append rs qs vs ws h) ∙ e) .0
 
-front-in : (rs : List Row) (vs ws : List ℤ) → length vs ≡ length rs → allIn rs (vs ++ ws) ≡ true → allIn rs vs ≡ true
+pub front-in : (rs : List Row) (vs ws : List ℤ) → length vs ≡ length rs → allIn rs (vs ++ ws) ≡ true → allIn rs vs ≡ true
 front-in rs vs ws h e =
     all-start rs [] vs ws h (ap (λ (qs : List Row). allIn qs (vs ++ ws)) (append-nil rs) ∙ e)
 
-lines-some : (rs : List Row) (vs : List ℤ) → length vs ≡ length rs → length rs ≤ length (linesOf rs vs)
+pub lines-some : (rs : List Row) (vs : List ℤ) → length vs ≡ length rs → length rs ≤ length (linesOf rs vs)
 lines-some [] vs h = omega arith
 lines-some (r ∷ rs) [] h = absurd (omega arith)
 lines-some (r ∷ rs) (z ∷ vs) h = simp length-append (omega (arith, lines-some rs vs (omega arith)))
-
--- ---- the first lines of a text
-
--- the first j rows are the same with k gain sets as with all
-rows-take : (k j : ℕ) → k ≤ sets → j ≤ linesFor k → take j (rowsOf k) ≡ take j rows
-rows-take k j m h =
-    let p : k + (sets - k) ≡ sets = omega arith in
-    sym (ap (take j) (ap rowsOf (sym p) ∙ rows-split k (sets - k)) ∙ take-append-le j (rowsOf k) _ (omega (arith, rows-long k)))
-
--- right lines of the first j rows, with what follows
-module _ (j : ℕ) (vs : List ℤ) (s : List ℕ) (h : j ≤ lines) (e : length vs ≡ j) (i : allIn (take j rows) vs ≡ true) where
-  front-long : length (take j rows) ≡ j
-  front-long = length-take-le j rows (omega (arith, rows-long sets))
-
-  -- they are read as what is left, from line j + 1 on
-  first-lines : (k : ℕ) → k ≤ sets → j ≤ linesFor k →
-      readFrom k (rowsOf k) 1 [] (linesOf (take j rows) vs ++ s) ≡ readFrom k (drop j (rowsOf k)) (j + 1) vs s
-  first-lines k m l =
-      let n : 1 + length (take j rows) ≡ j + 1 = omega (arith, front-long) in
-      ap (λ (rs : List Row). readFrom k rs 1 [] (linesOf (take j rows) vs ++ s))
-      (sym (take-append-drop j (rowsOf k)) ∙ ap (λ (rs : List Row). rs ++ drop j (rowsOf k)) (rows-take k j m l))
-      ∙ lines-read k (take j rows) (drop j (rowsOf k)) 1 [] vs s (all-take lined rows j (rows-lined sets (omega arith))) i (e ∙ sym front-long)
-      ∙ ap (λ (x : ℕ). readFrom k (drop j (rowsOf k)) x vs s) n
-
-  -- where bytes stand after line 26, the text has the lines of all gain sets
-  on-after : shortLines ≤ j → 0 < j - shortLines + length s → setsIn (linesOf (take j rows) vs ++ s) ≡ sets
-  on-after l some =
-      let rs = take shortLines (take j rows) in
-      let qs = drop shortLines (take j rows) in
-      let us = take shortLines vs in
-      let ws = drop shortLines vs in
-      let n : length rs ≡ shortLines = length-take-le shortLines (take j rows) (omega (arith, front-long)) in
-      let m : length us ≡ shortLines = length-take-le shortLines vs (omega arith) in
-      let p : length ws ≡ length qs = simp length-drop (omega (arith, front-long)) in
-      let q : length qs ≡ j - shortLines = simp length-drop (omega (arith, front-long)) in
-      let w : allIn rs us ≡ true = all-start rs qs us ws (m ∙ sym n) (ap₂ allIn (take-append-drop shortLines (take j rows)) (take-append-drop shortLines vs) ∙ i) in
-      let t : linesOf (take j rows) vs ++ s ≡ linesOf rs us ++ (linesOf qs ws ++ s) =
-      ap (λ (x : List ℕ). x ++ s) (sym (ap₂ linesOf (take-append-drop shortLines (take j rows)) (take-append-drop shortLines vs)) ∙ lines-both rs qs us ws (m ∙ sym n))
-      ∙ append-assoc (linesOf rs us) (linesOf qs ws) s in
-      let a : afterLines shortLines (linesOf (take j rows) vs ++ s) ≡ linesOf qs ws ++ s =
-      ap (afterLines shortLines) t
-      ∙ ap (λ (x : ℕ). afterLines x (linesOf rs us ++ (linesOf qs ws ++ s))) (sym n)
-      ∙ lines-after rs us (linesOf qs ws ++ s) (all-take lined (take j rows) shortLines (all-take lined rows j (rows-lined sets (omega arith)))) w (m ∙ sym n) in
-      let b : 0 < length (linesOf qs ws ++ s) = simp length-append (omega (arith, lines-some qs ws p, q)) in
-      goes-on (linesOf (take j rows) vs ++ s) (rw a b)
-
--- ---- the text
-
-read-with : (k : ℕ) (text : List ℕ) → setsIn text ≡ k → readText text ≡ readFrom k (rowsOf k) 1 [] text
-unfolding readText
-read-with k text e = ap (λ (x : ℕ). readFrom x (rowsOf x) 1 [] text) e
-
--- lines that are right up to line j, and then one that is not: the text is refused there. After line 26 it may end
-pub first-wrong : (j : ℕ) (vs : List ℤ) (s : List ℕ) → j < lines → length vs ≡ j → allIn (take j rows) vs ≡ true → (j ≡ shortLines → 0 < length s) →
-    let r = getD rows j noRow in
-    (lineCode r s ≡ 0 → ⊥) → readText (linesOf (take j rows) vs ++ s) ≡ refused (lineCode r s) (j + 1)
-first-wrong j vs s h e i more f =
-    let text = linesOf (take j rows) vs ++ s in
-    let k = setsIn text in
-    let m = sets-some text .1 in
-    let l : j < linesFor k = in-form k refl in
-    let q = row-of k j m l in
-    read-with k text refl
-    ∙ first-lines j vs s (omega arith) e i k m (omega arith)
-    ∙ ap (λ (rs : List Row). readFrom k rs (j + 1) vs s) (rows-next k j l)
-    ∙ line-refused k (j + 1) vs s (getD (rowsOf k) j noRow) (drop (j + 1) (rowsOf k)) (λ z. f (ap (λ (r : Row). lineCode r s) (sym q) ∙ z))
-    ∙ ap (λ (r : Row). refused (lineCode r s) (j + 1)) q
-  where
-    some : shortLines ≤ j → 0 < j - shortLines + length s
-    some l = by-test (eqb j shortLines) (λ t. omega (arith, more (eqb-true j shortLines t))) (λ t. omega (arith, l, eqb-false j shortLines t))
-
-    -- whichever form the text has, it has line j + 1
-    in-form : (k : ℕ) → setsIn (linesOf (take j rows) vs ++ s) ≡ k → j < linesFor k
-    in-form k g = by-test (ltb j shortLines)
-        (λ t. omega (arith, ltb-true j shortLines t, g, sets-some (linesOf (take j rows) vs ++ s) .0))
-        (λ t. let l = ltb-false j shortLines t in omega (arith, g, on-after j vs s (omega arith) e i l (some l)))
-
--- "Text that stops early is 14 at the line where it stops"
-pub text-stops : (j : ℕ) (vs : List ℤ) → j < lines → (j ≡ shortLines → ⊥) → length vs ≡ j → allIn (take j rows) vs ≡ true →
-    readText (linesOf (take j rows) vs) ≡ refused 14 (j + 1)
-unfolding lineCode ended
-text-stops j vs h f e i =
-    ap readText (sym (append-nil (linesOf (take j rows) vs)))
-    ∙ first-wrong j vs [] h e i (λ z. absurd (f z)) (λ z. omega arith)
-
--- all lines right: what is left decides
-pub all-right : (vs : List ℤ) (s : List ℕ) → length vs ≡ lines → allIn rows vs ≡ true →
-    readText (linesOf rows vs ++ s) ≡ readEnd (settingsOf vs) (length s)
-all-right vs s e i =
-    let p : take lines rows ≡ rows = take-all lines rows (omega (arith, rows-long sets)) in
-    let w : allIn (take lines rows) vs ≡ true = ap (λ (rs : List Row). allIn rs vs) p ∙ i in
-    let text = linesOf (take lines rows) vs ++ s in
-    ap (λ (rs : List Row). readText (linesOf rs vs ++ s)) (sym p)
-    ∙ read-with sets text (on-after lines vs s (omega arith) e w (omega arith) (omega arith))
-    ∙ first-lines lines vs s (omega arith) e w sets (omega arith) (omega arith)
-    ∙ lines-done sets (lines + 1) vs s lines (omega arith)
-    ∙ ap (λ (x : Settings). readEnd x (length s)) (filled-all (settingsOf vs) refl)
-
--- 26 lines right, and nothing after them
-pub short-right : (vs : List ℤ) → length vs ≡ shortLines → allIn (rowsOf shortSets) vs ≡ true →
-    readText (linesOf (rowsOf shortSets) vs) ≡ readEnd (filled shortSets (settingsOf vs)) 0
-short-right vs e i =
-    let rs = rowsOf shortSets in
-    let n = rows-long shortSets in
-    let l = rows-lined shortSets (omega arith) in
-    let a : afterLines shortLines (linesOf rs vs) ≡ [] =
-    ap₂ afterLines (sym n) (sym (append-nil (linesOf rs vs))) ∙ lines-after rs vs [] l i (e ∙ sym n) in
-    read-with shortSets (linesOf rs vs) (ends-short (linesOf rs vs) (omega (arith, ap length a)))
-    ∙ sym (ap₂ (λ (qs : List Row) (x : List ℕ). readFrom shortSets qs 1 [] x) (append-nil rs) (append-nil (linesOf rs vs)))
-    ∙ lines-read shortSets rs [] 1 [] vs [] l i (e ∙ sym n)
-
--- ---- settings that nothing is wrong with
-
--- their text is read as these settings
-pub text-read : (s : Settings) → length (s .gains) ≡ sets → settingsRefusal s ≡ 0 → readText (textOf s) ≡ record { code = 0; line = 0; settings = s }
-unfolding textFor inTable
-text-read s g e =
-    let t = sound s e in
-    let vs = valuesOf s in
-    ap readText (sym (append-nil (linesOf rows vs)))
-    ∙ all-right vs [] (values-long s g) (t .within)
-    ∙ ap (λ (x : Settings). readEnd x 0) (settings-values s g)
-    ∙ end-taken s 0 refl (t .order)
-
--- and so are its first 26 lines, where the sets after them are set 0
-pub short-read : (s : Settings) → length (s .gains) ≡ sets → settingsRefusal s ≡ 0 → filled shortSets s ≡ s →
-    readText (textFor shortSets s) ≡ record { code = 0; line = 0; settings = s }
-unfolding textFor inTable
-short-read s g e f =
-    let t = sound s e in
-    let vs = take shortLines (valuesOf s) in
-    let ws = drop shortLines (valuesOf s) in
-    let n : length vs ≡ shortLines = length-take-le shortLines (valuesOf s) (omega (arith, values-long s g)) in
-    let p = take-append-drop shortLines (valuesOf s) in
-    let m = n ∙ sym (rows-long shortSets) in
-    let i : allIn (rowsOf shortSets) vs ≡ true = front-in (rowsOf shortSets) vs ws m (ap (allIn (rowsOf shortSets)) p ∙ rows-front shortSets (valuesOf s) (omega arith) (t .within)) in
-    ap readText (ap (linesOf (rowsOf shortSets)) (sym p) ∙ lines-front (rowsOf shortSets) vs ws m)
-    ∙ short-right vs n i
-    ∙ ap (λ (x : Settings). readEnd x 0) (filled-first shortSets (valuesOf s) (omega arith) (omega arith) ∙ ap (filled shortSets) (settings-values s g) ∙ f)
-    ∙ end-taken s 0 refl (t .order)
-
--- ---- a text that is accepted
-
--- it is that of the settings it is read as, with which nothing is wrong
-pub record Again (k : ℕ) (text : List ℕ) (s : Settings) : Type 0 where
-  pub sixteen : length (s .gains) ≡ sets
-  pub right : settingsRefusal s ≡ 0
-  pub full : filled k s ≡ s
-  pub same : text ≡ textFor k s
-
-pub text-back : (text : List ℕ) → readText text .code ≡ 0 → Again (setsIn text) text (readText text .settings)
-unfolding readText textFor
-text-back text e =
-    let k = setsIn text in
-    let few = sets-some text in
-    let t = lines-back k (rowsOf k) 1 [] text e in
-    let vs = valuesIn (rowsOf k) text in
-    let n : length vs ≡ linesFor k = valued (rowsOf k) text ∙ rows-long k in
-    let x = filled k (settingsOf vs) in
-    let o = end-yes x 0 (sym (ap (λ (d : Reading). d .code) (t .end)) ∙ e) .order in
-    let v = values-filled k vs (few .1) n in
-    let a : Again k text x =
-    record {
-      sixteen = filled-long k (settingsOf vs) (few .1) refl;
-      right = rw (filled-in k vs (omega (arith, few .0)) (few .1) n (t .within), o);
-      full = filled-twice k (settingsOf vs) (few .1) refl (omega (arith, few .0));
-      same = t .same ∙ sym (ap (linesOf (rowsOf k)) v ∙ lines-front (rowsOf k) vs _ (n ∙ sym (rows-long k)));
-    } in
-    subst (Again k text) (sym (ap (λ (d : Reading). d .settings) (t .end ∙ end-taken x 0 refl o))) a
-
--- in either form
-pub full-back : (text : List ℕ) → readText text .code ≡ 0 → 0 < length (afterLines shortLines text) → Again sets text (readText text .settings)
-full-back text e more = subst (λ (k : ℕ). Again k text (readText text .settings)) (goes-on text more) (text-back text e)
-
-pub short-back : (text : List ℕ) → readText text .code ≡ 0 → afterLines shortLines text ≡ [] → Again shortSets text (readText text .settings)
-short-back text e end = subst (λ (k : ℕ). Again k text (readText text .settings)) (ends-short text (omega (arith, ap length end))) (text-back text e)
-
--- any set from 4 on is set 0
-pub missing-sets : {text : List ℕ} (s : Settings) → Again shortSets text s → (k : ℕ) → shortSets ≤ k → k < sets → gainsAt (s .gains) k ≡ gainsAt (s .gains) 0
-missing-sets s a k h l =
-    ap (λ (x : Settings). gainsAt (x .gains) k) (sym (a .full)) ∙ filled-at shortSets s (omega arith) (a .sixteen) k h l
-
--- the writer's text and its first 26 lines
-pub short-front : (s : Settings) → length (s .gains) ≡ sets →
-    textOf s ≡ textFor shortSets s ++ linesOf (drop shortLines rows) (drop shortLines (valuesOf s))
-unfolding textFor
-short-front s g =
-    let vs = take shortLines (valuesOf s) in
-    let ws = drop shortLines (valuesOf s) in
-    let rs = rowsOf shortSets in
-    let q : take shortLines rows ≡ rs = sym (rows-take shortSets shortLines (omega arith) (omega arith)) ∙ take-all shortLines rs (omega (arith, rows-long shortSets)) in
-    let m : length vs ≡ length rs = length-take-le shortLines (valuesOf s) (omega (arith, values-long s g)) ∙ sym (rows-long shortSets) in
-    let p = take-append-drop shortLines (valuesOf s) in
-    ap₂ linesOf (sym (take-append-drop shortLines rows) ∙ ap (λ (x : List Row). x ++ drop shortLines rows) q) (sym p)
-    ∙ lines-both rs (drop shortLines rows) vs ws m
-    ∙ ap (λ (x : List ℕ). x ++ linesOf (drop shortLines rows) ws) (sym (lines-front rs vs ws m) ∙ ap (linesOf rs) p)
-
--- which of the two an accepted text is
-abbrev Form : List ℕ → Settings → Type 0
-Form text s = (text ≡ textOf s) ⊎ ((filled shortSets s ≡ s) × (text ≡ textFor shortSets s))
-
-pub forms-back : (text : List ℕ) → readText text .code ≡ 0 → (s : Settings) × (length (s .gains) ≡ sets) × (settingsRefusal s ≡ 0) × Form text s
-forms-back text e = by-test (ltb 0 (length (afterLines shortLines text)))
-    (λ h. let t = full-back text e (ltb-true 0 _ h) in (readText text .settings, t .sixteen, t .right, inl (t .same)))
-    (λ h. let t = short-back text e (none (afterLines shortLines text) h) in (readText text .settings, t .sixteen, t .right, inr (t .full, t .same)))
-  where
-    none : (s : List ℕ) → ltb 0 (length s) ≡ false → s ≡ []
-    none [] h = refl
-    none (b ∷ s) h = absurd (omega (arith, ltb-false 0 (suc (length s)) h))
-
-pub forms-read : (text : List ℕ) (s : Settings) → length (s .gains) ≡ sets → settingsRefusal s ≡ 0 → Form text s → readText text .code ≡ 0
-forms-read text s g e (inl p) = ap (λ (x : List ℕ). readText x .code) p ∙ ap (λ (d : Reading). d .code) (text-read s g e)
-forms-read text s g e (inr p) = ap (λ (x : List ℕ). readText x .code) (p .1) ∙ ap (λ (d : Reading). d .code) (short-read s g e (p .0))
-
--- how long it is
-pub form-long : (text : List ℕ) → readText text .code ≡ 0 → length text ≤ longestText
-form-long text e = long text (forms-back text e)
-  where
-    long : (text : List ℕ) → (s : Settings) × (length (s .gains) ≡ sets) × (settingsRefusal s ≡ 0) × Form text s → length text ≤ longestText
-    long text (s, g, r, inl p) = rw p (sound-long s r)
-    long text (s, g, r, inr (f, p)) = omega (arith, ap length p, sound-short s r)

@@ -19,7 +19,7 @@ use Rattle.text.specs.Reader.{lineCode, afterLines, refused, readEnd, re
 use Rattle.text.specs.Writer.{writtenOf, bufferAfter}
 use Rattle.text.proofs.Texts.{text-answer}
 use Rattle.text.proofs.Writes.{fits-in, sound-short, wrote, wrote-nothing}
-use Rattle.text.proofs.Trip as trip
+use Rattle.text.proofs.Forms as forms
 use Rattle.text.proofs.SettingsC.{textC, c-written, c-read, longest, longest-written, longest-read}
 
 -- ---- there and back
@@ -31,7 +31,7 @@ pub read-then-written : (text buffer : List ℕ) → readText text .code ≡ 0 �
     (writtenOf (readText text .settings) (length buffer) ≡ record { code = 0; len = length text })
     × (bufferAfter (readText text .settings) buffer ≡ text ++ drop (length text) buffer)
 read-then-written text buffer e more h =
-    let t = trip.full-back text e more in
+    let t = forms.full-back text e more in
     let w = fits-in (readText text .settings) buffer (t .right) (rw (← t .same) h) in
     (rw (← t .same) at (sym (w .says)), rw (← t .same) at (sym (w .holds)))
 
@@ -41,14 +41,14 @@ pub written-then-read : (s : Settings) (buffer : List ℕ) → length (s .gains)
 written-then-read s buffer g e =
     let h = wrote s buffer e in
     let w = fits-in s buffer (h .right) (h .fit) in
-    rw (← w .says, ← w .holds, take-at (textOf s) (drop (length (textOf s)) buffer) (length (textOf s)) refl) (trip.text-read s g (h .right))
+    rw (← w .says, ← w .holds, take-at (textOf s) (drop (length (textOf s)) buffer) (length (textOf s)) refl) (forms.text-read s g (h .right))
 
 -- ---- the two forms
 
 -- "A text that ends after 26 lines is still read, with sets 4 to 15 equal to set 0": any set from 4 on.
 pub short-sets : (text : List ℕ) → readText text .code ≡ 0 → afterLines shortLines text ≡ [] →
     (k : ℕ) → shortSets ≤ k → k < sets → gainsAt (readText text .settings .gains) k ≡ gainsAt (readText text .settings .gains) 0
-short-sets text e end k h l = trip.missing-sets (readText text .settings) (trip.short-back text e end) k h l
+short-sets text e end k h l = forms.missing-sets (readText text .settings) (forms.short-back text e end) k h l
 
 -- "Writing always gives 86 lines": these settings are written as the text of which it is the first 26 lines.
 pub short-then-written : (text buffer : List ℕ) → readText text .code ≡ 0 → afterLines shortLines text ≡ [] →
@@ -58,8 +58,8 @@ pub short-then-written : (text buffer : List ℕ) → readText text .code ≡ 0 
     (writtenOf s (length buffer) ≡ record { code = 0; len = length all }) × (bufferAfter s buffer ≡ all ++ drop (length all) buffer)
 short-then-written text buffer e end h =
     let s = readText text .settings in
-    let t = trip.short-back text e end in
-    let p = trip.short-front s (t .sixteen) ∙ ap (λ (x : List ℕ). x ++ linesOf (drop shortLines rows) (drop shortLines (valuesOf s))) (sym (t .same)) in
+    let t = forms.short-back text e end in
+    let p = forms.short-front s (t .sixteen) ∙ ap (λ (x : List ℕ). x ++ linesOf (drop shortLines rows) (drop shortLines (valuesOf s))) (sym (t .same)) in
     let w = fits-in s buffer (t .right) (rw p h) in
     (rw p at (sym (w .says)), rw p at (sym (w .holds)))
 
@@ -69,15 +69,15 @@ pub accepted-exactly : (text : List ℕ) →
     (readText text .code ≡ 0)
     ↔ ((s : Settings) × (length (s .gains) ≡ sets) × (settingsRefusal s ≡ 0)
     × ((text ≡ textOf s) ⊎ ((filled shortSets s ≡ s) × (text ≡ textFor shortSets s))))
-accepted-exactly text = (trip.forms-back text, λ p. trip.forms-read text (p .0) (p .1) (p .2) (p .3))
+accepted-exactly text = (forms.forms-back text, λ p. forms.forms-read text (p .0) (p .1) (p .2) (p .3))
 
 -- "86 lines, 1,044 bytes at most": an accepted text has at most 1,044, and one has 1,044; one that ends after 26 lines has at
 -- most 306, and one has 306.
 pub at-most-longest : (text : List ℕ) → readText text .code ≡ 0 → length text ≤ longestText
-at-most-longest text e = trip.form-long text e
+at-most-longest text e = forms.form-long text e
 
 pub short-at-most : (text : List ℕ) → readText text .code ≡ 0 → afterLines shortLines text ≡ [] → length text ≤ longestShort
-short-at-most text e end = let t = trip.short-back text e end in rw (t .same) (sound-short (readText text .settings) (t .right))
+short-at-most text e end = let t = forms.short-back text e end in rw (t .same) (sound-short (readText text .settings) (t .right))
 
 pub one-has-longest : (length (textOf longest) ≡ longestText) × (readText (textOf longest) .code ≡ 0)
 one-has-longest = (longest-written .0, longest-read .0)
@@ -107,21 +107,21 @@ every-reading text = text-answer Answer done at-line at-end text
 pub first-wrong : (j : ℕ) (vs : List ℤ) (s : List ℕ) → j < lines → length vs ≡ j → allIn (take j rows) vs ≡ true → (j ≡ shortLines → 0 < length s) →
     let r = getD rows j noRow in
     (lineCode r s ≡ 0 → ⊥) → readText (linesOf (take j rows) vs ++ s) ≡ refused (lineCode r s) (j + 1)
-first-wrong j vs s h e i more f = trip.first-wrong j vs s h e i more f
+first-wrong j vs s h e i more f = forms.first-wrong j vs s h e i more f
 
 -- "Text that stops early is 14 at the line where it stops": after j right lines, j below 86 and not 26, that is line j + 1.
 pub stops-early : (j : ℕ) (vs : List ℤ) → j < lines → (j ≡ shortLines → ⊥) → length vs ≡ j → allIn (take j rows) vs ≡ true →
     readText (linesOf (take j rows) vs) ≡ refused 14 (j + 1)
-stops-early j vs h f e i = trip.text-stops j vs h f e i
+stops-early j vs h f e i = forms.text-stops j vs h f e i
 
 -- "Then 17, then 16": after 86 right lines, and after 26 where nothing follows.
 pub after-last : (vs : List ℤ) (s : List ℕ) → length vs ≡ lines → allIn rows vs ≡ true →
     readText (linesOf rows vs ++ s) ≡ readEnd (settingsOf vs) (length s)
-after-last vs s e i = trip.all-right vs s e i
+after-last vs s e i = forms.all-right vs s e i
 
 pub after-short : (vs : List ℤ) → length vs ≡ shortLines → allIn (rowsOf shortSets) vs ≡ true →
     readText (linesOf (rowsOf shortSets) vs) ≡ readEnd (filled shortSets (settingsOf vs)) 0
-after-short vs e i = trip.short-right vs e i
+after-short vs e i = forms.short-right vs e i
 
 -- A refused writing answers length 0 and leaves every byte of the buffer.
 pub refused-writing : (s : Settings) (buffer : List ℕ) → (writtenOf s (length buffer) .code ≡ 0 → ⊥) →
