@@ -1,7 +1,7 @@
 //! The generators give what the other tests need of them: nothing that matters stays unreached.
 
 use host::by_hand::Halves;
-use host::delivery::deliver;
+use host::delivery::{deliver, Delivery};
 use host::gen;
 use host::law::{Command, Loop, Mode};
 use host::rng::{for_each_seed, Rng};
@@ -72,29 +72,44 @@ fn texts_are_of_either_form_and_say_their_settings() {
     assert!(fronts[0] > 500 && fronts[1] > 500, "{fronts:?}");
 }
 
+/// A delivery of a generated list: the record before it, its command, its code and the record after.
+struct Delivered {
+    before: Loop,
+    command: Command,
+    code: i32,
+    after: Loop,
+}
+
+/// Shows every delivery of 300 generated lists.
+fn for_each_delivery(mut show: impl FnMut(Delivered)) {
+    for_each_seed(300, |rng| {
+        let settings = gen::settings(rng);
+        let mut record = Loop::make(&settings).1;
+        for Delivery { number, command } in gen::deliveries(rng, &settings, 200) {
+            let before = record;
+            let code = deliver(&mut record, number, command).code;
+            show(Delivered { before, command, code, after: record });
+        }
+    });
+}
+
 /// Ordinary samples in each of the sixteen sets, and commands for each set and past both ends.
 #[test]
 fn deliveries_reach_every_set_and_numbers_beyond() {
     let (mut samples, mut chosen) = ([0; 16], [0; 16]);
     let mut beyond = [0; 4];
-    for_each_seed(300, |rng| {
-        let settings = gen::settings(rng);
-        let mut record = Loop::make(&settings).1;
-        for next in gen::deliveries(rng, &settings, 200) {
-            let before = record;
-            let answer = deliver(&mut record, next.number, next.command);
-            let kept = record.last != before.last;
-            match next.command {
-                Command::Sample(_) if kept && before.mode == Mode::Automatic => {
-                    samples[before.set as usize] += i32::from(!before.pending);
-                }
-                Command::Set(k) if kept => chosen[k as usize] += 1,
-                Command::Set(k) if answer.code == 9 => {
-                    let numbers = [k == -1, k == 16, k < -1, k > 16];
-                    beyond[numbers.iter().position(|&is| is).expect("no such set")] += 1;
-                }
-                _ => {}
+    for_each_delivery(|Delivered { before, command, code, after }| {
+        let kept = after.last != before.last;
+        match command {
+            Command::Sample(_) if kept && before.mode == Mode::Automatic => {
+                samples[before.set as usize] += i32::from(!before.pending);
             }
+            Command::Set(k) if kept => chosen[k as usize] += 1,
+            Command::Set(k) if code == 9 => {
+                let numbers = [k == -1, k == 16, k < -1, k > 16];
+                beyond[numbers.iter().position(|&is| is).expect("no such set")] += 1;
+            }
+            _ => {}
         }
     });
     assert!(samples.iter().all(|&count| count > 100), "ordinary samples {samples:?}");
@@ -109,34 +124,28 @@ fn deliveries_reach_every_command_code_and_kind_of_sample() {
     let mut samples = [0; 3];
     let mut at_limits = [0; 3];
     let mut repeats = 0;
-    for_each_seed(300, |rng| {
-        let settings = gen::settings(rng);
-        let mut record = Loop::make(&settings).1;
-        for next in gen::deliveries(rng, &settings, 200) {
-            let before = record;
-            let answer = deliver(&mut record, next.number, next.command);
-            codes[answer.code as usize] += 1;
-            repeats += i32::from(answer.code == 0 && record.last == before.last);
-            if record.last != before.last {
-                let (word, kind) = match (next.command, before.mode, before.pending) {
-                    (Command::Sample(_), Mode::Manual, _) => (0, Some(0)),
-                    (Command::Sample(_), _, true) => (0, Some(1)),
-                    (Command::Sample(_), _, false) => (0, Some(2)),
-                    (Command::Hold, ..) => (1, None),
-                    (Command::Put(_), ..) => (2, None),
-                    (Command::Automatic, ..) => (3, None),
-                    (Command::Target { .. }, ..) => (4, None),
-                    (Command::Set(_), ..) => (5, None),
-                };
-                kept[word] += 1;
-                if let Some(kind) = kind {
-                    samples[kind] += 1;
-                }
-                if kind == Some(2) {
-                    let low = record.u == settings.lo;
-                    let high = record.u == settings.hi;
-                    at_limits[usize::from(low) + 2 * usize::from(high)] += 1;
-                }
+    for_each_delivery(|Delivered { before, command, code, after }| {
+        codes[code as usize] += 1;
+        repeats += i32::from(code == 0 && after.last == before.last);
+        if after.last != before.last {
+            let (word, kind) = match (command, before.mode, before.pending) {
+                (Command::Sample(_), Mode::Manual, _) => (0, Some(0)),
+                (Command::Sample(_), _, true) => (0, Some(1)),
+                (Command::Sample(_), _, false) => (0, Some(2)),
+                (Command::Hold, ..) => (1, None),
+                (Command::Put(_), ..) => (2, None),
+                (Command::Automatic, ..) => (3, None),
+                (Command::Target { .. }, ..) => (4, None),
+                (Command::Set(_), ..) => (5, None),
+            };
+            kept[word] += 1;
+            if let Some(kind) = kind {
+                samples[kind] += 1;
+            }
+            if kind == Some(2) {
+                let low = after.u == after.settings.lo;
+                let high = after.u == after.settings.hi;
+                at_limits[usize::from(low) + 2 * usize::from(high)] += 1;
             }
         }
     });

@@ -25,6 +25,12 @@ abbrev μ-loop : tie.MeasureT-loop
 array-copy-out-first : tie.Need-array-copy-out-first Inv-loop μ-loop
 array-copy-out-first c = search needs
 
+add-k : tie.Need-add-k Inv-loop μ-loop
+add-k c = omega arith
+
+loop-less : tie.Need-loop-less Inv-loop μ-loop
+loop-less c = omega arith
+
 loop-holds : tie.Need-loop-holds Inv-loop μ-loop
 loop-holds c =
     let a = c .before .before .args in
@@ -36,12 +42,6 @@ mul-gains c = omega arith
 
 array-set-from-gains : tie.Need-array-set-from-gains Inv-loop μ-loop
 array-set-from-gains c = omega arith
-
-add-k : tie.Need-add-k Inv-loop μ-loop
-add-k c = omega arith
-
-loop-less : tie.Need-loop-less Inv-loop μ-loop
-loop-less c = omega arith
 
 loop-again : tie.Need-loop-again Inv-loop μ-loop
 loop-again c =
