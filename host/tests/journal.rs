@@ -10,7 +10,7 @@ use host::gen;
 use host::journal::{delivery_line, parse, run};
 use host::law::{Command, Loop};
 use host::rng::for_each_seed;
-use papers::{both_forms, edges, full_c};
+use papers::{both_forms, edges_told, full_c};
 
 /// The output with settings C, which is the same with each of its two texts.
 fn with_c(deliveries: &str) -> String {
@@ -95,10 +95,8 @@ fn refused_settings_end_the_run() {
     assert_eq!(refused(C.replace("out=100\n", "out=1001\n")), "refused 16 0\n");
     assert_eq!(refused(format!("{C}\n")), "refused 14 27\n");
     assert_eq!(refused(format!("{}\n", full_c())), "refused 17 0\n");
-    for (text, code, line) in edges() {
-        let written = run(text.as_bytes(), b"");
-        let expected = if code == 0 { String::new() } else { format!("refused {code} {line}\n") };
-        assert_eq!(written, expected, "{}", text.escape_debug());
+    for (text, expected) in edges_told("") {
+        assert_eq!(run(text.as_bytes(), b""), expected, "{}", text.escape_debug());
     }
 }
 

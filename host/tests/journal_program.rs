@@ -9,7 +9,7 @@ use common::{across_a_cut, for_each_seed, odd_lines, same, words_of_digits, Prog
 use host::delivery::Delivery;
 use host::law::Command;
 use host::{example, gen, journal};
-use papers::{both_forms, edges};
+use papers::{both_forms, edges_told};
 
 fn journal_agrees(program: &Program, settings: &[u8], deliveries: &[u8]) {
     same("journal", &program.run(settings, deliveries), &journal::run(settings, deliveries));
@@ -79,10 +79,8 @@ fn the_sets_that_26_lines_leave_out_are_set_0() {
 #[test]
 fn settings_at_an_edge_are_taken_or_refused_as_the_papers_say() {
     let program = Program::new("journal");
-    for (text, code, line) in edges() {
-        let refused = format!("refused {code} {line}\n");
-        let expected = if code == 0 { "" } else { &refused };
-        same("journal", &program.run(text.as_bytes(), b""), expected);
+    for (text, expected) in edges_told("") {
+        same("journal", &program.run(text.as_bytes(), b""), &expected);
     }
 }
 

@@ -10,7 +10,7 @@ use host::gen;
 use host::law::{Command, Loop};
 use host::oven::{run, serve};
 use host::rng::for_each_seed;
-use papers::{both_forms, edges, full_c};
+use papers::{both_forms, edges_told, full_c};
 
 /// The output with settings C, which is the same with each of its two texts.
 fn with_c(samples: &str) -> String {
@@ -87,10 +87,8 @@ fn refused_settings_end_the_run_before_any_sample() {
 /// Settings C at an edge of its two forms are taken whole or refused.
 #[test]
 fn settings_at_an_edge_are_taken_or_refused_as_the_papers_say() {
-    for (text, code, line) in edges() {
+    for (text, expected) in edges_told("100\n105\n113\n") {
         let written = run(text.as_bytes(), b"480\n480\n478\n");
-        let refused = format!("refused {code} {line}\n");
-        let expected = if code == 0 { "100\n105\n113\n" } else { &refused };
         assert_eq!(written, expected, "{}", text.escape_debug());
     }
 }

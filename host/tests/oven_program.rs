@@ -8,7 +8,7 @@ mod papers;
 use common::{across_a_cut, for_each_seed, odd_lines, same, words_of_digits, Program};
 use host::rng::Rng;
 use host::{example, gen, oven, text};
-use papers::{both_forms, edges, first_lines, full_c, longest_text};
+use papers::{both_forms, edges_told, first_lines, full_c, longest_text};
 
 fn oven_agrees(program: &Program, settings: &[u8], samples: &[u8]) {
     same("oven", &program.run(settings, samples), &oven::run(settings, samples));
@@ -26,10 +26,8 @@ fn the_example_of_01() {
 #[test]
 fn settings_at_an_edge_are_taken_or_refused_as_the_papers_say() {
     let program = Program::new("oven");
-    for (text, code, line) in edges() {
-        let refused = format!("refused {code} {line}\n");
-        let expected = if code == 0 { "100\n105\n113\n" } else { &refused };
-        same("oven", &program.run(text.as_bytes(), b"480\n480\n478\n"), expected);
+    for (text, expected) in edges_told("100\n105\n113\n") {
+        same("oven", &program.run(text.as_bytes(), b"480\n480\n478\n"), &expected);
     }
     for lines in [26, 86] {
         let longest = first_lines(&longest_text(), lines);

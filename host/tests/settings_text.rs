@@ -1,6 +1,8 @@
 //! 01, "Settings text", in the two forms of request 5: every edge that they name, and both round
 //! trips.
 
+// What the programs write of the settings text is the matter of other tests.
+#[allow(dead_code)]
 mod papers;
 
 use host::example::{self, C};

@@ -168,3 +168,12 @@ pub fn edges() -> Vec<Edge> {
     let in_lines = [edges_after_line_26(), edges_of_the_end(), edges_of_the_keys()].concat();
     [in_lines, edges_of_the_length()].concat()
 }
+
+/// The same texts with what a program writes of each, where it writes `taken` of those accepted.
+pub fn edges_told(taken: &str) -> Vec<(String, String)> {
+    let told = |code, line| match code {
+        0 => taken.to_string(),
+        _ => format!("refused {code} {line}\n"),
+    };
+    edges().into_iter().map(|(text, code, line)| (text, told(code, line))).collect()
+}
