@@ -34,6 +34,7 @@ pub record SettingsFit (s : Settings) : Type 0 where
   pub out : SFits w32 (s .out)
   pub sp : SFits w32 (s .sp)
   pub rate : SFits w32 (s .rate)
+  pub mean : SFits w32 (s .mean)
   pub sets : length (s .gains) ≡ sets
   pub gains : (k : ℕ) → k < length (s .gains) → GainsFit (gainsAt (s .gains) k)
 
@@ -69,6 +70,7 @@ settings-fit s is =
       out = record { sfits = o .1 .1 .1 .0 .1 };
       sp = record { sfits = o .1 .1 .1 .1 .0 .1 };
       rate = record { sfits = o .1 .1 .1 .1 .1 .0 .1 };
-      sets = simp length-map at (o .1 .1 .1 .1 .1 .1 .0 .1 .0 .1);
-      gains = one-held (s .gains) _ (o .1 .1 .1 .1 .1 .1 .0 .1 .1);
+      mean = record { sfits = o .1 .1 .1 .1 .1 .1 .0 .1 };
+      sets = simp length-map at (o .1 .1 .1 .1 .1 .1 .1 .0 .1 .0 .1);
+      gains = one-held (s .gains) _ (o .1 .1 .1 .1 .1 .1 .1 .0 .1 .1);
     }

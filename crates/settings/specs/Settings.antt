@@ -19,7 +19,7 @@ gainValues g = g .kp ∷ g .ki ∷ g .kd ∷ g .alpha ∷ g .kt ∷ []
 
 -- those before the gain sets'
 abbrev pub headValues : Settings → List ℤ
-headValues s = s .action ∷ s .lo ∷ s .hi ∷ s .out ∷ s .sp ∷ s .rate ∷ []
+headValues s = s .action ∷ s .lo ∷ s .hi ∷ s .out ∷ s .sp ∷ s .rate ∷ s .mean ∷ []
 
 abbrev pub valuesOf : Settings → List ℤ
 valuesOf s = headValues s ++ each gainValues (s .gains)
@@ -56,6 +56,7 @@ settingsOf vs = record {
   out = getD vs 3 (pos 0);
   sp = getD vs 4 (pos 0);
   rate = getD vs 5 (pos 0);
+  mean = getD vs 6 (pos 0);
   gains = setsFrom heads sets vs;
 }
 
@@ -68,6 +69,7 @@ filled n s = record {
   out = s .out;
   sp = s .sp;
   rate = s .rate;
+  mean = s .mean;
   gains = take n (s .gains) ++ replicate (sets - n) (gainsAt (s .gains) 0);
 }
 

@@ -19,6 +19,7 @@ settingsC = filled shortSets (record {
   out = pos 100;
   sp = pos 500;
   rate = pos 50;
+  mean = pos 1;
   gains =
       gainSet 65536 16384 0 65536 0
       ∷ gainSet 131072 16384 65536 32768 0

@@ -29,6 +29,10 @@ gain = 4194304
 abbrev pub share : ℕ
 share = 65536
 
+-- a mean is over at most 128 temperatures
+abbrev pub window : ℕ
+window = 128
+
 -- ---- the table
 
 -- a key with its `=` has at most eight bytes
@@ -48,9 +52,9 @@ row key least most = record {
 unfoldable pub noRow : Row
 noRow = row "" (pos 0) (pos 0)
 
--- "action, lo, hi, out, sp, rate"
-abbrev pub headRows : List Row
-headRows =
+-- "action, lo, hi, out, sp, rate", which every text has
+abbrev pub firstRows : List Row
+firstRows =
     row "action=" (pos 0) (pos 1)
     ∷ row "lo=" (negℤ (pos reach)) (pos reach)
     ∷ row "hi=" (negℤ (pos reach)) (pos reach)
@@ -58,6 +62,13 @@ headRows =
     ∷ row "sp=" (negℤ (pos reach)) (pos reach)
     ∷ row "rate=" (pos 1) (pos fastest)
     ∷ []
+
+-- "One settings line, mean, follows rate": those that a text may leave out
+abbrev pub laterRows : List Row
+laterRows = row "mean=" (pos 1) (pos window) ∷ []
+
+abbrev pub headRows : List Row
+headRows = firstRows ++ laterRows
 
 -- "The last three rows stand in each of four gain sets", which are sixteen now: the letters of their five keys
 abbrev pub gainRows : List Row

@@ -24,6 +24,7 @@ pub struct Settings {
     pub out: i32,
     pub sp: i32,
     pub rate: i32,
+    pub mean: i32,
     pub gains: [Gains; Settings::SETS],
 }
 
@@ -40,11 +41,14 @@ impl Settings {
     // The most of alpha and kt: F itself.
     pub const SHARE: i32 = 65_536;
 
+    // "m from 1 to 128, kept in a window of 128 places"
+    pub const WINDOW: usize = 128;
+
     // "Raise four to sixteen": gain sets 0 to 15.
     pub const SETS: usize = 16;
 
-    // How many keys stand before those of the gain sets: action, lo, hi, out, sp, rate.
-    pub const HEAD: usize = 6;
+    // How many keys stand before those of the gain sets: action, lo, hi, out, sp, rate, mean.
+    pub const HEAD: usize = 7;
 
     // How many stand in each gain set: kp, ki, kd, alpha, kt.
     pub const KEYS: usize = 5;
@@ -96,7 +100,15 @@ impl Settings {
         requires { ⌜ i < heads ⌝ }
         ensures { λ r. ⌜ r ≡ getD (headValues self) i (pos 0) ⌝ }
     {
-        let all = [self.action, self.lo, self.hi, self.out, self.sp, self.rate];
+        let all = [
+            self.action,
+            self.lo,
+            self.hi,
+            self.out,
+            self.sp,
+            self.rate,
+            self.mean,
+        ];
         all[i]
     }
 
@@ -140,6 +152,7 @@ impl Settings {
             out: values[3],
             sp: values[4],
             rate: values[5],
+            mean: values[6],
             gains,
         }
     }

@@ -24,12 +24,15 @@ takes-requires-5 c κs = search needs
 takes-requires-6 : tie.Need-takes-requires-6
 takes-requires-6 c κs = search needs
 
+takes-requires-7 : tie.Need-takes-requires-7
+takes-requires-7 c κs = search needs
+
 returns : tie.Need-returns
 unfolding table
 returns c =
-    let s = c .before .before .before .before .before .before .before .before .before .before .before .before in
+    let s = c .before .before .before .before .before .before .before .before .before .before .before .before .before .before in
     let f = settings-fit (s .args .self) (s .good .0) in
-    meet (c .before .before .before .before .before .before .before .before .before .before .takes .ensures ∙ held 0 (f .action)) (meet (c .before .before .before .before .before .before .before .before .takes2 .ensures ∙ held 1 (f .lo)) (meet (c .before .before .before .before .before .before .takes3 .ensures ∙ held 2 (f .hi)) (meet (c .before .before .before .before .takes4 .ensures ∙ held 3 (f .out)) (meet (c .before .before .takes5 .ensures ∙ held 4 (f .sp)) (last (c .takes6 .ensures ∙ held 5 (f .rate)))))))
+    meet (c .before .before .before .before .before .before .before .before .before .before .before .before .takes .ensures ∙ held 0 (f .action)) (meet (c .before .before .before .before .before .before .before .before .before .before .takes2 .ensures ∙ held 1 (f .lo)) (meet (c .before .before .before .before .before .before .before .before .takes3 .ensures ∙ held 2 (f .hi)) (meet (c .before .before .before .before .before .before .takes4 .ensures ∙ held 3 (f .out)) (meet (c .before .before .before .before .takes5 .ensures ∙ held 4 (f .sp)) (meet (c .before .before .takes6 .ensures ∙ held 5 (f .rate)) (last (c .takes7 .ensures ∙ held 6 (f .mean))))))))
 
 pub head-in-table-spec : {M : Type 1} → statement M
 head-in-table-spec =
@@ -41,4 +44,5 @@ head-in-table-spec =
     takes-requires-4
     takes-requires-5
     takes-requires-6
+    takes-requires-7
     returns)
