@@ -17,6 +17,9 @@ use Rattle.word.specs.Decimal.{shown}
 abbrev pub reach : ℕ
 reach = 1000000
 
+abbrev pub inReach : ℤ → Bool
+inReach z = inside (negℤ (pos reach)) (pos reach) z
+
 -- a rate is at most 2,000,000
 abbrev pub fastest : ℕ
 fastest = 2000000

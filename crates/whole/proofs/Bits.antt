@@ -1,5 +1,5 @@
 -- Signed values and the bits that the machine holds of them.
-use mathlib.Core.Path.{_≡_, ap, sym, _∙_}
+use mathlib.Core.Path.{_≡_, refl, ap, sym, _∙_}
 use mathlib.Core.List.{List, [], _∷_}
 use Prim.Native.Nat.{ℕ, zero, suc, _-_, _^_, _<_}
 use borrow.Author.Tests.{eqb-true, eqb-false}
@@ -7,15 +7,15 @@ use denote.Array.{each}
 use denote.Shadow.{shadow}
 use denote.Signed.{SInt}
 use native.Mathlib.Omega.{arith}
-use lib.Dec.{eqb}
+use lib.Dec.{T, eqb}
 use lib.Pow.{pow-pos}
-use lib.IntN.{ℤ, pos, negsuc, negℤ}
+use lib.IntN.{ℤ, pos, negsuc, negℤ, natAbs}
 use lib.ListN.{getD}
-use lib.Signed.{mag}
+use lib.Signed.{mag, nonNeg, _≤ℤ_}
 use mir.Syntax.{Width, w32, w64}
-use mir.Val.{Val, SFits, hbits, toZ, ofZ}
+use mir.Val.{Val, Fits, SFits, hbits, toZ, ofZ}
 use mir.Facts.{toZ-ofZ}
-use Rattle.whole.specs.Numbers.{eqZ}
+use Rattle.whole.specs.Numbers.{plus, eqZ}
 use Rattle.whole.proofs.Truth.{by-test}
 use Rattle.whole.proofs.Parts.{yes-eqZ, no-eqZ}
 
@@ -54,3 +54,12 @@ fits-neg w (negsuc n) f g =
     by-test (eqb n (2 ^ hbits w - 1))
     (λ e. absurd (g (ap negsuc (eqb-true n (2 ^ hbits w - 1) e))))
     (λ e. record { sfits = omega (arith, eqb-false n (2 ^ hbits w - 1) e) })
+
+-- a number that is not negative is cast to one without a sign
+pub cast-up : (z : ℤ) → plus z < 2 ^ 64 → pos 0 ≤ℤ z → T (nonNeg z) × Fits w64 (natAbs z)
+cast-up (pos n) b h = (tt, record { fits = b })
+cast-up (negsuc n) b h = absurd (h .le)
+
+pub abs-up : (z : ℤ) → pos 0 ≤ℤ z → natAbs z ≡ plus z
+abs-up (pos n) h = refl
+abs-up (negsuc n) h = absurd (h .le)

@@ -1,0 +1,5 @@
+mod Fit
+pub mod Sums
+pub mod Bad
+pub mod Rules
+pub mod Taken

@@ -1,0 +1,29 @@
+-- How large a sum of temperatures is: what the functions of the mean may ask of their callers.
+use Prim.Native.Nat.{ℕ, _*_, _≤_}
+use mathlib.Core.List.{List}
+use lib.IntN.{ℤ, pos, negsuc, _*ℤ_}
+use lib.ListN.{take, getD}
+use lib.Signed.{_≤ℤ_}
+use mir.Syntax.{w32}
+use mir.Val.{SFits}
+use Rattle.settings.specs.Table.{window}
+use Rattle.window.specs.declared.means.Summed.{Summed}
+use Rattle.window.specs.Window.{sumOf}
+
+-- the sum of the first n, and how many they are
+abbrev pub summedOf : ℕ → List ℤ → Summed
+summedOf n all = record { n = n; sum = sumOf (take n all) }
+
+-- each of them is a number of 32 bits
+abbrev pub Bits : List ℤ → Type 0
+Bits xs = (i : ℕ) → SFits w32 (getD xs i (pos 0))
+
+-- a sum of at most 128 numbers of 32 bits
+abbrev pub sumMost : ℕ
+sumMost = 128 * 2147483648
+
+-- the sum of n numbers of 32 bits
+pub record MeanOk (sum : ℤ) (n : ℕ) : Type 0 where
+  pub few : n ≤ window
+  pub low : (negsuc 2147483647 *ℤ pos n) ≤ℤ sum
+  pub high : sum ≤ℤ (pos 2147483647 *ℤ pos n)

@@ -1,0 +1,130 @@
+// A list of samples taken one after the other: the mean after each, and the window after all.
+ghost use mathlib.Core.Path.{_≡_};
+ghost use Prim.Native.Nat.{_+_, _<_, _≤_, min};
+ghost use lib.ListN.{length, getD};
+ghost use lib.IntN.{pos};
+ghost use Rattle.settings.specs.Table.{window};
+ghost use Rattle.window.specs.Means.{firstBad, pastOf, afterAll, meansOf, frontFilled, meansInto};
+ghost use Rattle.window.specs.Bounds.{Bits, summedOf};
+use crate::Window;
+use crate::lesser;
+use crate::mean_of;
+use crate::sum_of;
+use settings::Settings;
+
+// The place of the first bad sample, or the length.
+fn bad_at(samples: &[i32]) -> usize
+    ensures { λ r. ⌜ r ≡ firstBad (now (samples .entry)) ⌝ }
+{
+    let mut i: usize = 0;
+    while i < samples.len() {
+        if !whole::lies_in(-Settings::REACH, Settings::REACH, samples[i]) {
+            return i;
+        }
+        i += 1;
+    }
+    i
+}
+
+// The newest temperatures that a mean goes over: how many there are, and their sum.
+pub struct Summed {
+    pub n: usize,
+    pub sum: i64,
+}
+
+// The temperature j places before the newest, after n of the samples: one of them, or one of those before them.
+fn past(places: &[i32; Settings::WINDOW], samples: &[i32], n: usize, j: usize) -> i32
+    requires { ⌜ (n ≤ length (now samples)) × (j < n + window) ⌝ }
+    ensures { λ r. ⌜ r ≡ getD (pastOf (now (places .entry)) (now (samples .entry)) n) j (pos 0) ⌝ }
+{
+    if j < n {
+        return samples[n - 1 - j];
+    }
+    places[j - n]
+}
+
+// The sum runs: sample i comes, and where most of them were counted the oldest leaves.
+fn next(
+    s: Summed,
+    most: usize,
+    places: &[i32; Settings::WINDOW],
+    samples: &[i32],
+    i: usize,
+) -> Summed
+    requires { ⌜ (s .n ≤ most) × (most ≤ window) × (i < length (now samples)) × Bits (now places) × Bits (now samples) × (s ≡ summedOf (s .n) (pastOf (now places) (now samples) i)) ⌝ }
+    ensures { λ r. ⌜ r ≡ summedOf (min most (s .n + 1)) (pastOf (now (places .entry)) (now (samples .entry)) (i + 1)) ⌝ }
+{
+    let sum = s.sum + samples[i] as i64;
+    if s.n < most {
+        return Summed { n: s.n + 1, sum };
+    }
+    let gone = past(places, samples, i + 1, most) as i64;
+    Summed {
+        n: s.n,
+        sum: sum - gone,
+    }
+}
+
+impl Window {
+    // The sum is kept in a local. What leaves it is read from the samples themselves, or from the window while it is one of those
+    // before them.
+    fn put_means(self, m: usize, samples: &[i32], out: &mut [i32])
+        requires { ⌜ (firstBad (now samples) ≡ length (now samples)) × (length (now samples) ≤ length (now out)) ⌝ }
+        ensures { λ _. ⌜ now (out .exit) ≡ frontFilled (meansOf m self (now (samples .entry))) (now (out .entry)) ⌝ }
+    {
+        let places = self.places;
+        let most = lesser(m, Settings::WINDOW);
+        let n = self.counted(m);
+        let mut s = Summed {
+            n,
+            sum: sum_of(&places, n),
+        };
+        let mut i: usize = 0;
+        while i < samples.len() {
+            s = next(s, most, &places, samples, i);
+            let mean = mean_of(s.sum, s.n);
+            out[i] = mean;
+            i += 1;
+        }
+    }
+
+    // "Code 4 tests the raw one": the place of the first bad sample, or the length. Where none is bad, the mean after each is put in
+    // the front of a list that has room for them.
+    pub fn means(self, m: usize, samples: &[i32], out: &mut [i32]) -> usize
+        ensures { λ r. ⌜ r ≡ firstBad (now (samples .entry)) ⌝ }
+        ensures { λ _. ⌜ now (out .exit) ≡ meansInto m self (now (samples .entry)) (now (out .entry)) ⌝ }
+    {
+        let place = bad_at(samples);
+        if place < samples.len() {
+            return place;
+        }
+        if out.len() < samples.len() {
+            return place;
+        }
+        self.put_means(m, samples, out);
+        place
+    }
+
+    // The window after every sample, each place filled once.
+    pub fn after(self, samples: &[i32]) -> Window
+        ensures { λ r. ⌜ r ≡ afterAll self (now (samples .entry)) ⌝ }
+    {
+        if samples.len() == 0 {
+            return self;
+        }
+        let old = self.places;
+        let before = lesser(self.seen, Settings::WINDOW);
+        let seen = lesser(
+            Settings::WINDOW,
+            before + lesser(samples.len(), Settings::WINDOW),
+        );
+        let mut places = old;
+        let mut i: usize = 0;
+        while i < Settings::WINDOW {
+            let x = past(&old, samples, samples.len(), i);
+            places[i] = x;
+            i += 1;
+        }
+        Window { places, seen }
+    }
+}
