@@ -9,9 +9,10 @@ use lib.Dec.{eqb, ltb, leb}
 use lib.IntN.{ℤ}
 use lib.ListN.{length}
 use Rattle.whole.proofs.Truth.{and, by-test, cond-no, zero-if, zero-else}
+use Rattle.window.proofs.Bad.{bad-most}
+use Rattle.window.specs.Means.{firstBad, frontFilled}
 use Rattle.pid.specs.Record.{valid}
-use Rattle.pid.specs.Play.{firstBad, frontFilled, playRefusal}
-use Rattle.pid.proofs.Turns.{bad-most}
+use Rattle.pid.specs.Play.{playRefusal}
 use Rattle.memory.proofs.Order.{neither}
 use Rattle.delivery.specs.declared.numbered.Numbered.{Numbered}
 use Rattle.delivery.specs.declared.replay.Replayed.{Replayed}

@@ -9,16 +9,17 @@ use borrow.Author.Tests.{eq-eqb}
 use lib.IntN.{ℤ, pos}
 use lib.ListN.{length, getD, length-map}
 use Rattle.whole.proofs.Truth.{and, cond-yes}
+use Rattle.settings.specs.Table.{inReach}
+use Rattle.window.proofs.Bad.{first-good}
+use Rattle.window.specs.Means.{firstBad, frontFilled}
 use Rattle.command.specs.declared.Command.{Command}
 use Rattle.command.specs.declared.Command.the-variants.{Sample}
 use Rattle.pid.specs.declared.record.Loop.{Loop}
-use Rattle.pid.specs.Record.{inReach}
 use Rattle.pid.specs.Law.{refusalOf, stepOf}
 use Rattle.command.specs.Sequence.{after, each}
 use Rattle.pid.specs.declared.play.Played.{Played}
-use Rattle.pid.specs.Play.{afterSamples, outputsOf, firstBad, playRefusal, playedOf, wroteOf, frontFilled}
+use Rattle.pid.specs.Play.{afterSamples, outputsOf, playRefusal, playedOf, wroteOf}
 use Rattle.pid.proofs.Obeys.{sample-taken}
-use Rattle.pid.proofs.Turns.{first-good}
 use Rattle.pid.proofs.Plays.{after-commands, played-refused, played-done, playable}
 use Rattle.memory.specs.Memory.{window, lastOf}
 use Rattle.memory.specs.declared.Last.{Last}

@@ -6,8 +6,8 @@ use native.Mathlib.Omega.{arith}
 use lib.IntN.{ℤ, pos}
 use lib.ListN.{length, drop, getD, length-append, length-drop, length-map}
 use lib.Seq.{getD-append-add, getD-drop}
+use Rattle.window.specs.Means.{frontFilled}
 use Rattle.command.specs.Sequence.{each}
-use Rattle.pid.specs.Play.{frontFilled}
 use Rattle.pid.proofs.Turns.{each-length}
 use Rattle.memory.specs.Walk.{Answer}
 use Rattle.delivery.specs.declared.numbered.Numbered.{Numbered}

@@ -5,11 +5,11 @@ use mathlib.Core.List.{List, [], _∷_, map}
 use lib.Dec.{eqb, ltb, leb}
 use lib.IntN.{ℤ}
 use lib.ListN.{length}
+use Rattle.window.specs.Means.{firstBad, frontFilled}
 use Rattle.command.specs.declared.Command.{Command}
 use Rattle.command.specs.declared.Command.the-variants.{Sample}
 use Rattle.pid.specs.Record.{valid}
 use Rattle.command.specs.Sequence.{after, each}
-use Rattle.pid.specs.Play.{firstBad, frontFilled}
 use Rattle.memory.specs.Memory.{lastNumber}
 use Rattle.memory.specs.Walk.{Delivery, Answer}
 use Rattle.delivery.specs.declared.numbered.Numbered.{Numbered}

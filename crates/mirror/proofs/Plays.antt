@@ -10,15 +10,16 @@ use lib.ListN.{length, length-map}
 use Rattle.whole.proofs.Truth.{by-test}
 use Rattle.whole.proofs.Lists.{map-join, map-drop}
 use Rattle.settings.specs.Table.{reach}
+use Rattle.window.proofs.Bad.{first-good}
+use Rattle.window.specs.Means.{firstBad, frontFilled}
 use Rattle.command.specs.declared.Command.the-variants.{Sample}
 use Rattle.command.specs.Sequence.{after, each}
 use Rattle.pid.specs.declared.record.Loop.{Loop}
 use Rattle.pid.specs.Record.{valid}
-use Rattle.pid.specs.Play.{sampled, afterSamples, outputsOf, firstBad, playRefusal, playedOf, frontFilled, wroteOf}
+use Rattle.pid.specs.Play.{sampled, afterSamples, outputsOf, playRefusal, playedOf, wroteOf}
 use Rattle.pid.proofs.Sound.{holds-of}
 use Rattle.pid.proofs.Kept.{step-valid}
 use Rattle.pid.proofs.Obeys.{sample-taken}
-use Rattle.pid.proofs.Turns.{first-good}
 use Rattle.pid.proofs.Plays.{playable}
 use Rattle.mirror.specs.Mirror.{Mirror, flipTemperature, flipLoop, flipPlayed}
 use Rattle.mirror.proofs.Settings.{range-temperature}

@@ -11,9 +11,8 @@ use Rattle.whole.proofs.Parts.{zs}
 use Rattle.whole.proofs.Lin.{Lin, at, lins}
 use Rattle.whole.proofs.Negated.{lt-neg, eqZ-neg, inside-neg}
 use Rattle.settings.specs.declared.Settings.{Settings}
-use Rattle.settings.specs.Table.{reach, rowsOf}
+use Rattle.settings.specs.Table.{reach, rowsOf, inReach}
 use Rattle.settings.specs.Settings.{inTable, ordered, settingsRefusal}
-use Rattle.pid.specs.Record.{inReach}
 use Rattle.mirror.specs.Mirror.{Mirror, ofAction, ofTemperatures, flipTemperature, flipAction, flipSettings}
 
 -- ---- ranges

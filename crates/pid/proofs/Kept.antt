@@ -17,16 +17,17 @@ use Rattle.command.specs.declared.Command.{Command}
 use Rattle.command.specs.declared.Command.the-variants.{Sample, Hold, Put, Automatic, Target, Set}
 use Rattle.pid.specs.declared.law.Obeyed.{Obeyed}
 use Rattle.pid.specs.Units.{rounded}
-use Rattle.settings.specs.Table.{sets}
+use Rattle.settings.specs.Table.{sets, inReach}
 use Rattle.settings.specs.Settings.{inTable, ordered}
-use Rattle.pid.specs.Record.{inReach, inRates, freshOf, valid}
+use Rattle.pid.specs.Record.{inRates, freshOf, valid}
 use Rattle.pid.specs.Sample.{limited, actedOf, movedOf}
-use Rattle.pid.specs.Law.{fixedOf, movingOf, withMode, withTarget, sampleOf, refusalOf, stepOf, lawOf}
+use Rattle.pid.specs.Law.{fixedOf, movingOf, readAt, withMode, withTarget, sampleOf, refusalOf, stepOf, lawOf}
 use Rattle.pid.specs.Bounds.{MovingOk}
+use Rattle.window.proofs.Rules.{fresh-ok, taken-ok}
 use Rattle.settings.proofs.Ranges.{settings-in}
 use Rattle.pid.proofs.Rounding.{rounded-between}
 use Rattle.pid.proofs.Arithmetic.{limited-between}
-use Rattle.pid.proofs.Sound.{Holds, valid-of, holds-of, in-range, range-in, fixed-ok, moving-ok}
+use Rattle.pid.proofs.Sound.{Holds, valid-of, holds-of, range-in, read-in, fixed-ok, moving-ok}
 use Rattle.pid.proofs.Samples.{sensed-ok, acted-ok}
 
 moded : (l : Loop) (a p : Bool) (k : ℕ) → Holds l → ltb k sets ≡ true → (a || not p) ≡ true → Holds (withMode l a p k)
@@ -42,6 +43,7 @@ moded l a p k h e f = record {
   y = h .y;
   zero = h .zero;
   pending = f;
+  window = h .window;
 }
 
 targeted : (l : Loop) (t r u : ℤ) → Holds l → inReach t ≡ true → inRates r ≡ true → inside (l .settings .lo) (l .settings .hi) u ≡ true →
@@ -58,6 +60,7 @@ targeted l t r u h a b c = record {
   y = h .y;
   zero = h .zero;
   pending = h .pending;
+  window = h .window;
 }
 
 -- "power stays within the loop's limits": a limited sum, rounded, lies in lo..hi
@@ -87,11 +90,11 @@ set-pending true p e = refl
 set-pending false true e = e
 set-pending false false e = refl
 
-sample-moving : (l : Loop) (pv : ℤ) → Holds l → inReach pv ≡ true → MovingOk (movedOf (fixedOf l) (movingOf l) pv)
+sample-moving : (l : Loop) (pv : ℤ) → Holds l → inReach pv ≡ true → MovingOk (movedOf (fixedOf l) (movingOf l) (readAt l pv))
 sample-moving l pv h e =
     let f = fixed-ok l h in
     let m = moving-ok l h in
-    acted-ok _ _ _ f m (sensed-ok _ _ _ f m (in-range 999999 pv e))
+    acted-ok _ _ _ f m (sensed-ok _ _ _ f m (read-in l h pv e))
 
 sample-holds : (l : Loop) (pv : ℤ) → Holds l → inReach pv ≡ true → Holds (sampleOf l pv)
 unfolding sampleOf actedOf
@@ -109,6 +112,7 @@ sample-holds l pv h e =
       y = range-in 65535999999 _ (m .y);
       zero = refl;
       pending = rw (sample-pending (l .automatic) (l .pending)) (h .pending);
+      window = taken-ok (l .window) pv (h .window) e;
     }
 
 set-in : (k : ℤ) → inside (pos 0) (pos (sets - 1)) k ≡ true → ltb (plus k) sets ≡ true
@@ -149,6 +153,7 @@ fresh-holds s t o =
       y = refl;
       zero = refl;
       pending = refl;
+      window = fresh-ok;
     }
 
 pub step-valid : (l : Loop) (c : Command) → valid l ≡ true → refusalOf l c ≡ 0 → valid (stepOf l c) ≡ true

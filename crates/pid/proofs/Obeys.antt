@@ -7,11 +7,11 @@ use borrow.Author.Tests.{eq-eqb, ne-eqb}
 use lib.IntN.{ℤ, pos}
 use Rattle.whole.specs.Numbers.{inside}
 use Rattle.whole.proofs.Truth.{chosen}
-use Rattle.settings.specs.Table.{sets}
+use Rattle.settings.specs.Table.{sets, inReach}
 use Rattle.command.specs.declared.Command.{Command}
 use Rattle.command.specs.declared.Command.the-variants.{Sample, Hold, Put, Automatic, Target, Set}
 use Rattle.pid.specs.declared.record.Loop.{Loop}
-use Rattle.pid.specs.Record.{inReach, inRates, valid}
+use Rattle.pid.specs.Record.{inRates, valid}
 use Rattle.pid.specs.Law.{refusalOf, stepOf, lawOf}
 
 module _ (l : Loop) (c : Command) where

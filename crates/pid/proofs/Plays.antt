@@ -8,7 +8,13 @@ use borrow.Author.Tests.{eqb-true, eqb-false, ne-eqb, lt-ltb, le-ltb, ltb-false}
 use lib.Dec.{eqb, ltb}
 use lib.IntN.{ℤ}
 use lib.ListN.{length}
+use Rattle.whole.specs.Numbers.{plus}
 use Rattle.whole.proofs.Truth.{by-test, zero-if, zero-else}
+use Rattle.window.specs.declared.Window.{Window}
+use Rattle.window.specs.Window.{taken, meanAt}
+use Rattle.window.proofs.Bad.{bad-most}
+use Rattle.window.proofs.Good.{means-good}
+use Rattle.window.specs.Means.{firstBad, afterAll, meansOf, frontFilled}
 use Rattle.command.specs.declared.Command.the-variants.{Sample}
 use Rattle.pid.specs.declared.record.Loop.{Loop}
 use Rattle.pid.specs.declared.sample.Moving.{Moving}
@@ -18,20 +24,36 @@ use Rattle.pid.specs.Sample.{movedOf}
 use Rattle.pid.specs.Law.{withMoving, fixedOf, sampleOf, stepOf}
 use Rattle.command.specs.Sequence.{after, each}
 use Rattle.command.proofs.Sequences.{after-through}
-use Rattle.pid.specs.Play.{sampled, afterSamples, outputsOf, firstBad, playRefusal, refusedOf, playedOf, frontFilled, wroteOf, movedAfter, movedOutputs}
-use Rattle.pid.proofs.Turns.{bad-most, each-length}
+use Rattle.pid.specs.Play.{sampled, afterSamples, outputsOf, playRefusal, refusedOf, playedOf, wroteOf, readsOf, movedAfter, movedOutputs}
+use Rattle.pid.proofs.Sound.{holds-of}
+use Rattle.pid.proofs.Turns.{each-length}
 
--- ---- the law's samples are done on what moves
+-- ---- the law's samples are done on the window and on what moves
 
-pub after-moved : (l : Loop) (m : Moving) (pvs : List ℤ) → afterSamples (withMoving l m) pvs ≡ withMoving l (movedAfter (fixedOf l) m pvs)
-unfolding after stepOf sampleOf
-after-moved l m [] = refl
-after-moved l m (pv ∷ pvs) = after-moved l (movedOf (fixedOf l) m pv) pvs
+module _ (l : Loop) where
+  -- the mean that the law reads after a window
+  abbrev read : Window → ℤ → ℤ
+  read w pv = meanAt (plus (l .settings .mean)) w pv
 
-pub outputs-moved : (l : Loop) (m : Moving) (pvs : List ℤ) → outputsOf (withMoving l m) pvs ≡ movedOutputs (fixedOf l) m pvs
-unfolding each stepOf sampleOf
-outputs-moved l m [] = refl
-outputs-moved l m (pv ∷ pvs) = ap (λ (us : List ℤ). movedOf (fixedOf l) m pv .u ∷ us) (outputs-moved l (movedOf (fixedOf l) m pv) pvs)
+  pub after-moved : (w : Window) (m : Moving) (pvs : List ℤ) →
+      afterSamples (withMoving l w m) pvs ≡ withMoving l (afterAll w pvs) (movedAfter (fixedOf l) m (meansOf (plus (l .settings .mean)) w pvs))
+  unfolding after each stepOf sampleOf
+  after-moved w m [] = refl
+  after-moved w m (pv ∷ pvs) = after-moved (taken w pv) (movedOf (fixedOf l) m (read w pv)) pvs
+
+  pub outputs-moved : (w : Window) (m : Moving) (pvs : List ℤ) →
+      outputsOf (withMoving l w m) pvs ≡ movedOutputs (fixedOf l) m (meansOf (plus (l .settings .mean)) w pvs)
+  unfolding each stepOf sampleOf
+  outputs-moved w m [] = refl
+  outputs-moved w m (pv ∷ pvs) =
+      ap (λ (us : List ℤ). movedOf (fixedOf l) m (read w pv) .u ∷ us) (outputs-moved (taken w pv) (movedOf (fixedOf l) m (read w pv)) pvs)
+
+-- what the law reads of good samples is good
+pub reads-good : (l : Loop) (pvs : List ℤ) → valid l ≡ true → firstBad pvs ≡ length pvs → firstBad (readsOf l pvs) ≡ length pvs
+reads-good l pvs v g = means-good (plus (l .settings .mean)) (l .window) pvs (holds-of l v .window) g
+
+pub reads-length : (l : Loop) (pvs : List ℤ) → length (readsOf l pvs) ≡ length pvs
+reads-length l pvs = each-length taken (meanAt (plus (l .settings .mean))) (l .window) pvs
 
 -- given as commands, they do the same
 pub after-commands : (l : Loop) (pvs : List ℤ) → after stepOf l (map Sample pvs) ≡ afterSamples l pvs

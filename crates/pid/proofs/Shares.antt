@@ -11,6 +11,7 @@ use Rattle.whole.specs.Numbers.{plus}
 use Rattle.whole.proofs.Truth.{both, chosen, cond-yes, cond-no}
 use Rattle.whole.proofs.Parts.{zs, eqZ-yes, Between}
 use Rattle.whole.proofs.Lin.{Lin, at, lins}
+use Rattle.settings.specs.Table.{inReach}
 use Rattle.pid.specs.declared.record.Loop.{Loop}
 use Rattle.command.specs.declared.Command.{Command}
 use Rattle.command.specs.declared.Command.the-variants.{Sample, Hold, Put, Automatic, Target, Set}
@@ -18,15 +19,15 @@ use Rattle.pid.specs.declared.sample.Fixed.{Fixed}
 use Rattle.pid.specs.declared.sample.Moving.{Moving}
 use Rattle.pid.specs.declared.sample.Sensed.{Sensed}
 use Rattle.pid.specs.Units.{rounded}
-use Rattle.pid.specs.Record.{inReach, valid}
+use Rattle.pid.specs.Record.{valid}
 use Rattle.pid.specs.Bounds.{FixedOk, MovingOk, SensedOk}
 use Rattle.pid.specs.Sample.{lesser, greater, limited, shareOf, vOf, limitedV, clamped, backCalculated, integrated, newI, actedOf}
-use Rattle.pid.specs.Law.{fixedOf, movingOf, sampleOf, refusalOf, stepOf}
+use Rattle.pid.specs.Law.{fixedOf, movingOf, readAt, sampleOf, refusalOf, stepOf}
 use Rattle.command.specs.Sequence.{after}
 use Rattle.pid.specs.Run.{obeyed, accepted, sensedAt, shareAt, withinLimits, ordinaryWithin, unbroken, shares}
 use Rattle.pid.proofs.Arithmetic.{limited-between}
 use Rattle.pid.proofs.Samples.{sensed-ok}
-use Rattle.pid.proofs.Sound.{holds-of, fixed-ok, moving-ok, in-range}
+use Rattle.pid.proofs.Sound.{holds-of, fixed-ok, moving-ok, read-in}
 use Rattle.pid.proofs.Kept.{step-valid, sample-reach}
 
 -- clamping leaves room for the share where v is within the limits
@@ -113,7 +114,7 @@ sample-share l pv v r o =
     let h = holds-of l v in
     let f = fixed-ok l h in
     let m = moving-ok l h in
-    let z = sensed-ok (fixedOf l) (movingOf l) pv f m (in-range 999999 pv r) in
+    let z = sensed-ok (fixedOf l) (movingOf l) (readAt l pv) f m (read-in l h pv r) in
     cond-yes _ _ (s .0) ∙ cond-no _ _ (not-true (l .pending) (s .1))
     ∙ newI-share (fixedOf l) (movingOf l) (sensedAt l pv) f m z (eqZ-yes _ _ (q .1))
 

@@ -7,17 +7,19 @@ use borrow.Author.Tests.{ltb-true}
 use lib.Dec.{ltb}
 use lib.IntN.{ℤ, pos, negsuc, _*ℤ_}
 use lib.Signed.{ltZ}
-use Rattle.whole.specs.Numbers.{Within, eqZ, inside}
+use Rattle.whole.specs.Numbers.{plus, Within, eqZ, inside}
 use Rattle.whole.proofs.Truth.{both, and, chosen}
 use Rattle.whole.proofs.Parts.{zs, inside-yes, yes-inside}
 use Rattle.whole.proofs.Lin.{Lin, lins}
 use Rattle.whole.proofs.Num.{nums, stays}
 use Rattle.pid.specs.declared.record.Loop.{Loop}
-use Rattle.settings.specs.Table.{sets}
+use Rattle.settings.specs.Table.{sets, inReach}
 use Rattle.settings.specs.Settings.{gainsAt, inTable, ordered}
-use Rattle.pid.specs.Record.{inReach, inRates, inB, inFine, placesOk, fineOk, pendingOk, valid}
-use Rattle.pid.specs.Law.{fixedOf, movingOf}
+use Rattle.window.specs.Window.{windowOk}
+use Rattle.pid.specs.Record.{inRates, inB, inFine, placesOk, fineOk, pendingOk, valid}
+use Rattle.pid.specs.Law.{fixedOf, movingOf, readAt}
 use Rattle.pid.specs.Bounds.{FixedOk, MovingOk}
+use Rattle.window.proofs.Rules.{mean-in}
 use Rattle.settings.proofs.Ranges.{GainsIn, SettingsIn, settings-in}
 
 pub record Holds (l : Loop) : Type 0 where
@@ -32,6 +34,7 @@ pub record Holds (l : Loop) : Type 0 where
   pub y : inFine (l .y) ≡ true
   pub zero : (l .primed || eqZ (l .y) (pos 0)) ≡ true
   pub pending : pendingOk l ≡ true
+  pub window : windowOk (l .window) ≡ true
 
 pub holds-of : (l : Loop) → valid l ≡ true → Holds l
 unfolding valid
@@ -46,7 +49,8 @@ holds-of l e =
     let I = inB (l .integral) in
     let Y = inFine (l .y) in
     let Z = l .primed || eqZ (l .y) (pos 0) in
-    let p = both (T && O && placesOk l && fineOk l) (pendingOk l) e in
+    let v = both (T && O && placesOk l && fineOk l && pendingOk l) (windowOk (l .window)) e in
+    let p = both (T && O && placesOk l && fineOk l) (pendingOk l) (v .0) in
     let f = both (T && O && placesOk l) (fineOk l) (p .0) in
     let s = both (T && O) (placesOk l) (f .0) in
     let t = both T O (s .0) in
@@ -68,6 +72,7 @@ holds-of l e =
       y = i .1;
       zero = z .1;
       pending = p .1;
+      window = v .1;
     }
 
 pub valid-of : (l : Loop) → Holds l → valid l ≡ true
@@ -75,9 +80,11 @@ unfolding valid
 valid-of l h =
     and
     (and
+    (and
     (and (and (h .table) (h .order)) (and (and (and (and (h .w) (h .target)) (h .rate)) (h .set)) (h .u)))
     (and (and (h .integral) (h .y)) (h .zero)))
-    (h .pending)
+    (h .pending))
+    (h .window)
 
 -- ---- ranges and bounds
 
@@ -98,6 +105,10 @@ module _ (l : Loop) (h : Holds l) where
 
   gains-in : GainsIn (gainsAt (l .settings .gains) (l .set))
   gains-in = within-table .gains (l .set) (ltb-true (l .set) sets (h .set))
+
+  -- the mean that the law reads
+  pub read-in : (pv : ℤ) → inReach pv ≡ true → Within 1000000 (readAt l pv)
+  read-in pv e = in-range 999999 (readAt l pv) (mean-in (plus (l .settings .mean)) (l .window) pv (h .window) e)
 
   pub fixed-ok : FixedOk (fixedOf l)
   fixed-ok =

@@ -6,20 +6,22 @@ use lib.IntN.{ℤ, pos, negℤ, _*ℤ_}
 use Rattle.whole.specs.Numbers.{plus, eqZ, inside}
 use Rattle.command.specs.declared.Command.{Command}
 use Rattle.command.specs.declared.Command.the-variants.{Sample, Hold, Put, Automatic, Target, Set}
+use Rattle.window.specs.declared.Window.{Window}
+use Rattle.window.specs.Window.{taken, meanAt}
 use Rattle.pid.specs.declared.record.Loop.{Loop}
 use Rattle.pid.specs.declared.sample.Fixed.{Fixed}
 use Rattle.pid.specs.declared.sample.Moving.{Moving}
 use Rattle.pid.specs.declared.law.Obeyed.{Obeyed}
 use Rattle.pid.specs.Units.{F}
-use Rattle.settings.specs.Table.{sets}
+use Rattle.settings.specs.Table.{sets, inReach}
 use Rattle.settings.specs.Settings.{gainsAt}
-use Rattle.pid.specs.Record.{inReach, inRates, valid}
+use Rattle.pid.specs.Record.{inRates, valid}
 use Rattle.pid.specs.Sample.{movedOf}
 
 -- ---- the groups of fields that a command changes, each written out once
 
-abbrev pub withMoving : Loop → Moving → Loop
-withMoving l m = record {
+abbrev pub withMoving : Loop → Window → Moving → Loop
+withMoving l window m = record {
   settings = l .settings;
   automatic = l .automatic;
   pending = m .pending;
@@ -31,6 +33,7 @@ withMoving l m = record {
   integral = m .integral;
   primed = m .primed;
   y = m .y;
+  window = window;
 }
 
 abbrev pub withMode : Loop → Bool → Bool → ℕ → Loop
@@ -46,6 +49,7 @@ withMode l automatic pending set = record {
   integral = l .integral;
   primed = l .primed;
   y = l .y;
+  window = l .window;
 }
 
 abbrev pub withTarget : Loop → ℤ → ℤ → ℤ → Loop
@@ -61,6 +65,7 @@ withTarget l target rate u = record {
   integral = l .integral;
   primed = l .primed;
   y = l .y;
+  window = l .window;
 }
 
 -- ---- what a sample reads of the loop, and what it moves
@@ -89,9 +94,13 @@ movingOf l = record { w = l .w; u = l .u; integral = l .integral; y = l .y; prim
 
 -- ---- the commands
 
--- "Sample pv."
+-- "The law then reads the mean wherever 01 writes pv" (02, request 7)
+abbrev pub readAt : Loop → ℤ → ℤ
+readAt l pv = meanAt (plus (l .settings .mean)) (l .window) pv
+
+-- "Sample pv." "The window takes every kept sample, in manual too."
 unfoldable pub sampleOf : Loop → ℤ → Loop
-sampleOf l pv = withMoving l (movedOf (fixedOf l) (movingOf l) pv)
+sampleOf l pv = withMoving l (taken (l .window) pv) (movedOf (fixedOf l) (movingOf l) (readAt l pv))
 
 -- "Hold. Manual, not pending; u stays."
 abbrev pub holdOf : Loop → Loop
@@ -123,7 +132,7 @@ stepOf l (Set k) = setOf l (plus k)
 
 -- ---- the refusals: "then content, with 6 before 5 and 7 before 8"
 
--- "4: pv outside ±1,000,000"
+-- "4: pv outside ±1,000,000", and "code 4 tests the raw one"
 abbrev pub sampleRefusal : ℤ → ℕ
 sampleRefusal pv = cond (inReach pv) 0 4
 

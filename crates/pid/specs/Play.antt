@@ -1,16 +1,18 @@
 -- A list of samples under the plain law, with a list whose front takes the outputs: what 01's replay stands on.
-use Prim.Native.Nat.{ℕ, suc}
+use Prim.Native.Nat.{ℕ}
 use mathlib.Core.Bool.{cond}
-use mathlib.Core.List.{List, [], _∷_, _++_}
+use mathlib.Core.List.{List}
 use lib.Dec.{eqb, ltb}
 use lib.IntN.{ℤ}
-use lib.ListN.{length, drop}
+use lib.ListN.{length}
+use Rattle.whole.specs.Numbers.{plus}
+use Rattle.window.specs.Means.{firstBad, meansOf, frontFilled}
 use Rattle.command.specs.declared.Command.the-variants.{Sample}
 use Rattle.pid.specs.declared.record.Loop.{Loop}
 use Rattle.pid.specs.declared.sample.Fixed.{Fixed}
 use Rattle.pid.specs.declared.sample.Moving.{Moving}
 use Rattle.pid.specs.declared.play.Played.{Played}
-use Rattle.pid.specs.Record.{inReach, valid}
+use Rattle.pid.specs.Record.{valid}
 use Rattle.pid.specs.Sample.{movedOf}
 use Rattle.pid.specs.Law.{stepOf}
 use Rattle.command.specs.Sequence.{after, each}
@@ -29,11 +31,6 @@ outputsOf l samples = each sampled (λ m pv. sampled m pv .u) l samples
 
 -- ---- what is refused
 
--- "the place of the first bad sample", "counted from 0"; the length where none is bad
-unfoldable pub firstBad : List ℤ → ℕ
-firstBad [] = 0
-firstBad (pv ∷ pvs) = cond (inReach pv) (suc (firstBad pvs)) 0
-
 -- "10 [..] 12 [..] then 4": of a replay's order, what the law itself tests. room is the output list's length
 unfoldable pub playRefusal : Loop → List ℤ → ℕ → ℕ
 playRefusal l samples room =
@@ -51,18 +48,17 @@ playedOf l samples room =
     let code = playRefusal l samples room in
     cond (eqb code 0) (record { code = 0; place = 0; state = afterSamples l samples }) (refusedOf l code (cond (eqb code 4) (firstBad samples) 0))
 
--- "the first n places hold the outputs, every later place keeps its number"
-abbrev pub frontFilled : List ℤ → List ℤ → List ℤ
-frontFilled outputs out = outputs ++ drop (length outputs) out
-
 -- what the output list holds afterwards
 unfoldable pub wroteOf : Loop → List ℤ → List ℤ → List ℤ
 wroteOf l samples out = cond (eqb (playRefusal l samples (length out)) 0) (frontFilled (outputsOf l samples) out) out
 
--- ---- the samples on what moves alone, where each is good
+-- ---- what the law reads of the samples, and what it makes of that on what moves alone
+
+abbrev pub readsOf : Loop → List ℤ → List ℤ
+readsOf l samples = meansOf (plus (l .settings .mean)) (l .window) samples
 
 abbrev pub movedAfter : Fixed → Moving → List ℤ → Moving
-movedAfter f m samples = after (movedOf f) m samples
+movedAfter f m read = after (movedOf f) m read
 
 abbrev pub movedOutputs : Fixed → Moving → List ℤ → List ℤ
-movedOutputs f m samples = each (movedOf f) (λ n pv. movedOf f n pv .u) m samples
+movedOutputs f m read = each (movedOf f) (λ n pv. movedOf f n pv .u) m read

@@ -7,8 +7,9 @@ use Rattle.settings.specs.declared.Settings.{Settings}
 use Rattle.pid.specs.declared.record.Loop.{Loop}
 use Rattle.pid.specs.declared.record.Made.{Made}
 use Rattle.pid.specs.Units.{B, fineReach}
-use Rattle.settings.specs.Table.{reach, fastest, sets}
+use Rattle.settings.specs.Table.{inReach, fastest, sets}
 use Rattle.settings.specs.Settings.{inTable, ordered, settingsRefusal, blankSettings}
+use Rattle.window.specs.Window.{freshWindow, windowOk}
 
 -- "A fresh loop: manual, not pending, set 0, w = target = sp, rate and u as set, I = 0, not primed, y = 0"
 abbrev pub freshOf : Settings → Loop
@@ -24,6 +25,7 @@ freshOf s = record {
   integral = pos 0;
   primed = false;
   y = pos 0;
+  window = freshWindow;
 }
 
 -- "the blank: every number zero, manual, every flag no"
@@ -40,6 +42,7 @@ blankLoop = record {
   integral = pos 0;
   primed = false;
   y = pos 0;
+  window = freshWindow;
 }
 
 -- "Making a loop from settings tests 11, then 16. Where making a loop [..] is refused, what stands beside the code is the blank"
@@ -50,10 +53,6 @@ madeOf s =
     (record { code = settingsRefusal s; state = blankLoop })
 
 -- ---- the state rules
-
--- a number within ±1,000,000
-abbrev pub inReach : ℤ → Bool
-inReach z = inside (negℤ (pos reach)) (pos reach) z
 
 -- a rate from 1 to 2,000,000
 abbrev pub inRates : ℤ → Bool
@@ -84,4 +83,4 @@ pendingOk l = l .automatic || not (l .pending)
 -- the state rules of the loop: all of 01's but the one on the last number and command. "Settings within the table" asks lo < hi
 -- and out in lo..hi too
 unfoldable pub valid : Loop → Bool
-valid l = inTable (l .settings) && ordered (l .settings) && placesOk l && fineOk l && pendingOk l
+valid l = inTable (l .settings) && ordered (l .settings) && placesOk l && fineOk l && pendingOk l && windowOk (l .window)

@@ -10,7 +10,7 @@ use Rattle.command.specs.declared.Command.{Command}
 use Rattle.command.specs.declared.Command.the-variants.{Sample, Hold, Put, Automatic, Target, Set}
 use Rattle.pid.specs.declared.sample.Sensed.{Sensed}
 use Rattle.pid.specs.Sample.{sensedOf, shareOf, vOf, limitedV}
-use Rattle.pid.specs.Law.{fixedOf, movingOf, refusalOf, stepOf}
+use Rattle.pid.specs.Law.{fixedOf, movingOf, readAt, refusalOf, stepOf}
 use Rattle.command.specs.Sequence.{after}
 
 -- the law's state after some commands, each given once
@@ -46,9 +46,9 @@ between (Set k ∷ cs) = between cs
 -- ---- "Over an unbroken run of kept ordinary automatic samples within limits, the integral moves by exactly the sum of gain
 -- times error, one share for each sample."
 
--- what the law's steps 1 to 3 find at a sample
+-- what the law's steps 1 to 3 find at a sample, whose mean they read
 abbrev pub sensedAt : Loop → ℤ → Sensed
-sensedAt l pv = sensedOf (fixedOf l) (movingOf l) pv
+sensedAt l pv = sensedOf (fixedOf l) (movingOf l) (readAt l pv)
 
 -- gain times error: ki × e
 abbrev pub shareAt : Loop → ℤ → ℤ

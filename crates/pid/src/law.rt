@@ -3,9 +3,9 @@ ghost use mathlib.Core.Path.{_≡_};
 ghost use mathlib.Core.Bool.{true};
 ghost use Prim.Native.Nat.{_<_};
 ghost use Rattle.whole.specs.Numbers.{plus, Within};
-ghost use Rattle.settings.specs.Table.{reach, sets};
+ghost use Rattle.settings.specs.Table.{reach, sets, inReach};
 ghost use Rattle.settings.specs.Settings.{gainsAt};
-ghost use Rattle.pid.specs.Record.{inReach, valid};
+ghost use Rattle.pid.specs.Record.{valid};
 ghost use Rattle.pid.specs.Law.{signOf, fixedOf, movingOf, withMoving, sampleRefusal, putRefusal, targetRefusal, setRefusal, refusalOf, sampleOf, holdOf, putOf, automaticOf, targetOf, setOf, stepOf, lawOf};
 use crate::record::Loop;
 use crate::sample::Fixed;
@@ -15,6 +15,7 @@ use crate::sample::sense;
 use command::Command;
 use settings::Gains;
 use settings::Settings;
+use window::Window;
 
 pub struct Obeyed {
     pub code: u8,
@@ -148,9 +149,9 @@ impl Loop {
         }
     }
 
-    pub(crate) fn with_moving(mut self, m: Moving) -> Loop
+    pub(crate) fn with_moving(mut self, window: Window, m: Moving) -> Loop
         requires { ⌜ Within reach (m .w) × Within reach (m .u) ⌝ }
-        ensures { λ r. ⌜ r ≡ withMoving self m ⌝ }
+        ensures { λ r. ⌜ r ≡ withMoving self window m ⌝ }
     {
         let w = narrow(m.w);
         let u = narrow(m.u);
@@ -160,17 +161,27 @@ impl Loop {
         self.y = m.y;
         self.primed = m.primed;
         self.pending = m.pending;
+        self.window = window;
         self
+    }
+
+    // Over how many temperatures the mean goes.
+    pub(crate) fn mean(self) -> usize
+        ensures { λ r. ⌜ r ≡ plus (self .settings .mean) ⌝ }
+    {
+        index(self.settings.mean)
     }
 
     fn sample(self, pv: i32) -> Loop
         requires { ⌜ (valid self ≡ true) × (inReach pv ≡ true) ⌝ }
         ensures { λ r. ⌜ r ≡ sampleOf self pv ⌝ }
     {
+        let old = self.window;
+        let window = old.taken(pv);
         let f = self.fixed();
         let m = self.moving();
-        let z = sense(f, m, pv);
-        self.with_moving(act(f, m, z))
+        let z = sense(f, m, window.mean(self.mean()));
+        self.with_moving(window, act(f, m, z))
     }
 
     fn hold(mut self) -> Loop

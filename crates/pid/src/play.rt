@@ -2,10 +2,11 @@
 ghost use mathlib.Core.Path.{_≡_};
 ghost use mathlib.Core.Bool.{true};
 ghost use Prim.Native.Nat.{_≤_};
-ghost use lib.ListN.{length};
+ghost use lib.ListN.{length, take};
+ghost use Rattle.window.specs.Means.{firstBad, frontFilled};
 ghost use Rattle.pid.specs.Record.{valid};
 ghost use Rattle.pid.specs.Bounds.{FixedOk, MovingOk};
-ghost use Rattle.pid.specs.Play.{firstBad, movedAfter, movedOutputs, afterSamples, outputsOf, frontFilled, refusedOf, playedOf, wroteOf};
+ghost use Rattle.pid.specs.Play.{movedAfter, movedOutputs, readsOf, afterSamples, outputsOf, refusedOf, playedOf, wroteOf};
 use crate::record::Loop;
 use crate::sample::Fixed;
 use crate::sample::Moving;
@@ -18,30 +19,16 @@ pub struct Played {
     pub state: Loop,
 }
 
-// The place of the first bad sample, or the length.
-fn bad_at(samples: &[i32]) -> usize
-    ensures { λ r. ⌜ r ≡ firstBad (now (samples .entry)) ⌝ }
-{
-    let mut i: usize = 0;
-    while i < samples.len() {
-        if !whole::lies_in(-Loop::REACH, Loop::REACH, samples[i]) {
-            return i;
-        }
-        i += 1;
-    }
-    i
-}
-
-// The loop over the samples touches only what moves: no record goes through it.
-fn run(f: Fixed, start: Moving, samples: &[i32], out: &mut [i32]) -> Moving
-    requires { ⌜ FixedOk f × MovingOk start × (firstBad (now samples) ≡ length (now samples)) × (length (now samples) ≤ length (now out)) ⌝ }
-    ensures { λ r. ⌜ r ≡ movedAfter f start (now (samples .entry)) ⌝ }
-    ensures { λ _. ⌜ now (out .exit) ≡ frontFilled (movedOutputs f start (now (samples .entry))) (now (out .entry)) ⌝ }
+// The first n places hold what the law reads, and then its outputs: what moves goes through the loop, and no record.
+fn run(f: Fixed, start: Moving, n: usize, out: &mut [i32]) -> Moving
+    requires { ⌜ FixedOk f × MovingOk start × (n ≤ length (now out)) × (firstBad (take n (now out)) ≡ n) ⌝ }
+    ensures { λ r. ⌜ r ≡ movedAfter f start (take n (now (out .entry))) ⌝ }
+    ensures { λ _. ⌜ now (out .exit) ≡ frontFilled (movedOutputs f start (take n (now (out .entry)))) (now (out .entry)) ⌝ }
 {
     let mut m = start;
     let mut i: usize = 0;
-    while i < samples.len() {
-        let z = sense(f, m, samples[i]);
+    while i < n {
+        let z = sense(f, m, out[i]);
         let next = act(f, m, z);
         let u = next.u as i32;
         out[i] = u;
@@ -62,14 +49,15 @@ impl Loop {
         }
     }
 
-    // Every sample is good, and has its place.
+    // The means stand in the list: every sample is good, and has its place.
     fn give(self, samples: &[i32], out: &mut [i32]) -> Loop
-        requires { ⌜ (valid self ≡ true) × (firstBad (now samples) ≡ length (now samples)) × (length (now samples) ≤ length (now out)) ⌝ }
+        requires { ⌜ (valid self ≡ true) × (firstBad (now samples) ≡ length (now samples)) × (length (now samples) ≤ length (now out)) × (take (length (now samples)) (now out) ≡ readsOf self (now samples)) ⌝ }
         ensures { λ r. ⌜ r ≡ afterSamples self (now (samples .entry)) ⌝ }
         ensures { λ _. ⌜ now (out .exit) ≡ frontFilled (outputsOf self (now (samples .entry))) (now (out .entry)) ⌝ }
     {
-        let m = run(self.fixed(), self.moving(), samples, out);
-        self.with_moving(m)
+        let m = run(self.fixed(), self.moving(), samples.len(), out);
+        let window = self.window;
+        self.with_moving(window.after(samples), m)
     }
 
     // 10, then 12, then 4 "with the place of the first bad sample"; else every sample is given once.
@@ -83,7 +71,8 @@ impl Loop {
         if out.len() < samples.len() {
             return self.refused(12, 0);
         }
-        let place = bad_at(samples);
+        let window = self.window;
+        let place = window.means(self.mean(), samples, out);
         if place < samples.len() {
             return self.refused(4, place);
         }

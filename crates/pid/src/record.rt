@@ -2,6 +2,7 @@
 ghost use mathlib.Core.Path.{_≡_};
 ghost use Rattle.pid.specs.Record.{freshOf, blankLoop, madeOf, placesOk, fineOk, pendingOk, valid};
 use settings::Settings;
+use window::Window;
 
 pub struct Loop {
     pub settings: Settings,
@@ -15,6 +16,7 @@ pub struct Loop {
     pub integral: i64,
     pub primed: bool,
     pub y: i64,
+    pub window: Window,
 }
 
 pub struct Made {
@@ -60,6 +62,7 @@ impl Loop {
             integral: 0,
             primed: false,
             y: 0,
+            window: Window::fresh(),
         }
     }
 
@@ -116,6 +119,12 @@ impl Loop {
         ensures { λ r. ⌜ r ≡ valid self ⌝ }
     {
         let s = self.settings;
-        s.in_table() & s.is_ordered() & self.places_ok() & self.fine_ok() & self.pending_ok()
+        let w = self.window;
+        s.in_table()
+            & s.is_ordered()
+            & self.places_ok()
+            & self.fine_ok()
+            & self.pending_ok()
+            & w.is_valid()
     }
 }

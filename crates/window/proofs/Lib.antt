@@ -3,3 +3,4 @@ pub mod Sums
 pub mod Bad
 pub mod Rules
 pub mod Taken
+pub mod Good

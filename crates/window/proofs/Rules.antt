@@ -15,7 +15,7 @@ use Rattle.whole.proofs.Lists.{next}
 use Rattle.whole.proofs.Parts.{Between, inside-yes, yes-inside, eqZ-yes}
 use Rattle.settings.specs.Table.{reach, window, inReach}
 use Rattle.window.specs.declared.Window.{Window}
-use Rattle.window.specs.Window.{taken, placeOk, placesOk, windowOk, latest, meanAt}
+use Rattle.window.specs.Window.{freshWindow, taken, placeOk, placesOk, windowOk, latest, meanAt}
 use Rattle.window.proofs.Sums.{Each, mean-between}
 
 -- ---- place by place
@@ -53,7 +53,11 @@ each-take lo hi (suc n) [] e i = e i
 each-take lo hi (suc n) (x ∷ xs) e zero = e 0
 each-take lo hi (suc n) (x ∷ xs) e (suc i) = each-take lo hi n xs (λ j. e (suc j)) i
 
--- ---- that they hold again
+-- ---- that they hold at first, and again
+
+pub fresh-ok : windowOk freshWindow ≡ true
+unfolding windowOk freshWindow
+fresh-ok = refl
 
 -- fewer places
 places-front : (n k : ℕ) (xs : List ℤ) → placesOk n xs ≡ true → placesOk (min k n) (take k xs) ≡ true

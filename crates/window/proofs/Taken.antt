@@ -7,8 +7,8 @@ use native.Mathlib.Numerals.{add-one}
 use native.Mathlib.Omega.{arith}
 use borrow.Author.Tests.{lt-ltb, le-ltb}
 use lib.IntN.{ℤ, pos, _+ℤ_, _-ℤ_}
-use lib.ListN.{length, getD, take, drop, set, length-take}
-use lib.Seq.{sets, sets-eq, take-suc, take-take, take-all, take-length, drop-cons, drop-length}
+use lib.ListN.{length, getD, take, drop, set, length-take, length-append, length-drop}
+use lib.Seq.{sets, sets-eq, take-suc, take-take, take-all, take-at, take-length, drop-at, drop-cons, drop-length}
 use Rattle.whole.specs.Rounding.{nearest}
 use Rattle.whole.proofs.Parts.{zs}
 use Rattle.whole.proofs.Lin.{Lin, at, lins}
@@ -163,6 +163,17 @@ module _ (n most i : ℕ) (sum : ℤ) (old s : List ℤ) (e : sum ≡ sumOf (tak
 
 pub sets-front : (out vs : List ℤ) → length vs ≤ length out → sets out 0 vs ≡ frontFilled vs out
 sets-front out vs h = sets-eq vs out 0 (rw zero-add h) ∙ rw zero-add
+
+-- its front, filled once, and filled again
+pub front-take : (vs out : List ℤ) → take (length vs) (frontFilled vs out) ≡ vs
+front-take vs out = take-at vs (drop (length vs) out) (length vs) refl
+
+pub front-long : (vs out : List ℤ) → length vs ≤ length out → length (frontFilled vs out) ≡ length out
+front-long vs out h = simp (length-append, length-drop) (omega arith)
+
+pub front-twice : (us vs out : List ℤ) → length us ≡ length vs → frontFilled us (frontFilled vs out) ≡ frontFilled us out
+front-twice us vs out e =
+    ap (λ (xs : List ℤ). us ++ xs) (drop-at vs (drop (length vs) out) (length us) (sym e) ∙ ap (λ (k : ℕ). drop k out) (sym e))
 
 -- one mean more
 pub means-turn : (most n i : ℕ) (old s out : List ℤ) (z : ℤ) → i < length s →

@@ -10,15 +10,15 @@ use lib.IntN.{ℤ, pos}
 use lib.ListN.{length, drop, getD}
 use Rattle.whole.specs.Numbers.{inside}
 use Rattle.whole.proofs.Truth.{both}
-use Rattle.settings.specs.Table.{rowsOf}
+use Rattle.settings.specs.Table.{rowsOf, inReach}
 use Rattle.settings.specs.Settings.{inTable}
 use Rattle.command.specs.declared.Command.the-variants.{Sample}
 use Rattle.settings.specs.SettingsC.{settingsC}
-use Rattle.pid.specs.Record.{freshOf, inReach, inB, valid}
+use Rattle.window.proofs.Bad.{good-before, bad-at-place, all-good}
+use Rattle.window.specs.Means.{firstBad}
+use Rattle.pid.specs.Record.{freshOf, inB, valid}
 use Rattle.command.specs.Sequence.{after, each}
-use Rattle.pid.specs.Play.{firstBad}
 use Rattle.pid.proofs.Sound.{holds-of}
-use Rattle.pid.proofs.Turns.{good-before, bad-at-place, all-good}
 use Rattle.memory.specs.Memory.{lastNumber}
 use Rattle.memory.specs.Walk.{Answer}
 use Rattle.delivery.specs.declared.numbered.Numbered.{Numbered}

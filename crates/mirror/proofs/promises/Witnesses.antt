@@ -9,6 +9,7 @@ use Rattle.settings.specs.declared.Settings.{Settings}
 use Rattle.settings.specs.Table.{shortSets, rowsOf}
 use Rattle.settings.specs.Settings.{filled, inTable}
 use Rattle.settings.specs.SettingsC.{gainSet}
+use Rattle.window.specs.Means.{firstBad}
 use Rattle.command.specs.declared.Command.{Command}
 use Rattle.command.specs.declared.Command.the-variants.{Sample, Put, Automatic, Set}
 use Rattle.command.specs.Sequence.{after, each}
@@ -18,7 +19,7 @@ use Rattle.pid.specs.Record.{valid, madeOf as Loop·madeOf}
 use Rattle.pid.specs.Sample.{lesser, greater, limited, ramped, filtered, derivative, sensedOf, vOf, limitedV, clamped, backCalculated, integrated, actedOf}
 use Rattle.pid.specs.Law.{fixedOf, movingOf, sampleOf, stepOf, refusalOf, lawOf}
 use Rattle.pid.specs.Run.{sensedAt}
-use Rattle.pid.specs.Play.{firstBad, playRefusal, wroteOf}
+use Rattle.pid.specs.Play.{playRefusal, wroteOf}
 use Rattle.memory.specs.Memory.{isLast, foundBy}
 use Rattle.memory.specs.Walk.{Delivery, Answer}
 use Rattle.delivery.specs.declared.numbered.Numbered.{Numbered}

@@ -17,14 +17,14 @@ use Rattle.pid.specs.declared.sample.Fixed.{Fixed}
 use Rattle.pid.specs.declared.sample.Moving.{Moving}
 use Rattle.pid.specs.declared.sample.Sensed.{Sensed}
 use Rattle.pid.specs.Units.{F, part, product}
-use Rattle.settings.specs.Table.{reach, rowsOf}
+use Rattle.settings.specs.Table.{reach, rowsOf, inReach}
 use Rattle.settings.specs.Settings.{blankSettings, settingsRefusal, inTable, ordered}
-use Rattle.pid.specs.Record.{freshOf, blankLoop, madeOf, inReach, inB, valid}
+use Rattle.pid.specs.Record.{freshOf, blankLoop, madeOf, inB, valid}
 use Rattle.pid.specs.Sample.{sensedOf, shareOf, vOf, limitedV}
 use Rattle.pid.specs.Bounds.{FixedOk, MovingOk}
 use Rattle.pid.specs.Run.{sensedAt}
-use Rattle.pid.specs.Law.{fixedOf, movingOf, lawOf}
-use Rattle.pid.proofs.Sound.{valid-of, holds-of, fixed-ok, moving-ok, in-range}
+use Rattle.pid.specs.Law.{fixedOf, movingOf, readAt, lawOf}
+use Rattle.pid.proofs.Sound.{valid-of, holds-of, fixed-ok, moving-ok, read-in}
 use Rattle.pid.proofs.Samples.{sensed-ok}
 use Rattle.pid.proofs.Arithmetic.{limited-within}
 use Rattle.pid.proofs.Kept.{step-valid, fresh-holds, by-law}
@@ -106,7 +106,7 @@ fits-of f m pv a b h =
       excess = stays (search nums depth 12) tt;
     }
 
-pub all-fit : (l : Loop) (pv : ℤ) → valid l ≡ true → inReach pv ≡ true → Fits (fixedOf l) (movingOf l) (sensedAt l pv) (pv *ℤ pos F)
+pub all-fit : (l : Loop) (pv : ℤ) → valid l ≡ true → inReach pv ≡ true → Fits (fixedOf l) (movingOf l) (sensedAt l pv) (readAt l pv *ℤ pos F)
 all-fit l pv v e =
     let h = holds-of l v in
-    fits-of (fixedOf l) (movingOf l) pv (fixed-ok l h) (moving-ok l h) (in-range 999999 pv e)
+    fits-of (fixedOf l) (movingOf l) (readAt l pv) (fixed-ok l h) (moving-ok l h) (read-in l h pv e)

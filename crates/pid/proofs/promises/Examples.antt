@@ -14,6 +14,7 @@ use Rattle.pid.specs.declared.sample.Moving.{Moving}
 use Rattle.pid.specs.Units.{F, fine, rounded}
 use Rattle.settings.specs.Table.{rowsOf}
 use Rattle.settings.specs.Settings.{inTable}
+use Rattle.window.specs.Window.{freshWindow, taken, meanAt, windowOk}
 use Rattle.pid.specs.Record.{freshOf, valid}
 use Rattle.pid.specs.Law.{sampleOf, stepOf, refusalOf}
 use Rattle.command.specs.Sequence.{after}
@@ -102,7 +103,7 @@ abbrev two : List Command
 two = Sample (pos 480) ∷ Set (pos 0) ∷ Sample (pos 478) ∷ []
 
 pub run-met : (valid warm ≡ true) × (accepted warm two ≡ true) × (unbroken warm two ≡ true) × (shares warm two ≡ fine 10 50)
-unfolding rounded rowsOf inTable valid lesser greater limited ramped filtered derivative sensedOf clamped backCalculated integrated actedOf sampleOf stepOf refusalOf after accepted unbroken shares
+unfolding rounded rowsOf inTable freshWindow taken meanAt windowOk valid lesser greater limited ramped filtered derivative sensedOf clamped backCalculated integrated actedOf sampleOf stepOf refusalOf after accepted unbroken shares
 run-met = (refl, refl, refl, refl)
 
 -- from 500 to 800 by 50 takes six samples
@@ -110,10 +111,10 @@ abbrev aimed : Loop
 aimed = stepOf warm (Target (pos 800) (pos 50))
 
 pub ramp-met : (valid aimed ≡ true) × (samplesToTarget aimed ≡ 6)
-unfolding rounded rowsOf inTable valid lesser greater limited ramped filtered derivative sensedOf clamped backCalculated integrated actedOf sampleOf stepOf refusalOf after
+unfolding rounded rowsOf inTable freshWindow taken meanAt windowOk valid lesser greater limited ramped filtered derivative sensedOf clamped backCalculated integrated actedOf sampleOf stepOf refusalOf after
 ramp-met = (refl, refl)
 
 -- a hold, an automatic that leaves manual, and another set are switches; a target may stand before the first sample
 pub switch-met : (switches warm Hold ≡ true) × (switches (freshOf settingsC) Automatic ≡ true) × (switches warm (Set (pos 1)) ≡ true) × (between (Target (pos 800) (pos 50) ∷ []) ≡ true)
-unfolding rounded rowsOf inTable valid lesser greater limited ramped filtered derivative sensedOf clamped backCalculated integrated actedOf sampleOf stepOf refusalOf after switches between
+unfolding rounded rowsOf inTable freshWindow taken meanAt windowOk valid lesser greater limited ramped filtered derivative sensedOf clamped backCalculated integrated actedOf sampleOf stepOf refusalOf after switches between
 switch-met = (refl, refl, refl, refl)

@@ -8,15 +8,16 @@ use lib.Dec.{eqb}
 use lib.IntN.{ℤ}
 use lib.ListN.{length}
 use Rattle.whole.proofs.Truth.{by-test}
+use Rattle.window.proofs.Bad.{first-good}
+use Rattle.window.specs.Means.{firstBad}
 use Rattle.command.specs.declared.Command.the-variants.{Sample}
 use Rattle.pid.specs.declared.record.Loop.{Loop}
 use Rattle.pid.specs.Record.{valid}
 use Rattle.command.specs.Sequence.{after}
-use Rattle.pid.specs.Play.{sampled, afterSamples, firstBad, playRefusal, playedOf, wroteOf}
+use Rattle.pid.specs.Play.{sampled, afterSamples, playRefusal, playedOf, wroteOf}
 use Rattle.pid.specs.Run.{obeyed}
 use Rattle.pid.proofs.Kept.{step-valid}
 use Rattle.pid.proofs.Obeys.{sample-taken}
-use Rattle.pid.proofs.Turns.{first-good}
 use Rattle.pid.proofs.Plays.{after-commands, playable}
 
 -- the samples are given as commands, each once, in order

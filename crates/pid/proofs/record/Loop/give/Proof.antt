@@ -1,12 +1,26 @@
-use mathlib.Core.Path.{_≡_, ap, sym, _∙_}
+use mathlib.Core.Path.{_≡_, ap, ap₂, sym, _∙_}
+use mathlib.Core.List.{List}
 use borrow.Author.Needs.{needs}
+use lib.IntN.{ℤ}
+use lib.ListN.{length, take}
+use Rattle.window.specs.Means.{firstBad, frontFilled}
+use Rattle.pid.specs.declared.record.Loop.{Loop}
 use Rattle.pid.specs.Law.{withMoving, fixedOf, movingOf}
-use Rattle.pid.specs.Play.{movedAfter}
+use Rattle.pid.specs.Play.{readsOf, movedAfter, movedOutputs}
 use Rattle.pid.proofs.Sound.{holds-of, fixed-ok, moving-ok}
 use Rattle.pid.proofs.Turns.{all-ok}
-use Rattle.pid.proofs.Plays.{after-moved, outputs-moved}
+use Rattle.pid.proofs.Plays.{after-moved, outputs-moved, reads-good, reads-length}
 use Rattle.pid.proofs.record.Loop.give.Statement.{statement}
 use Rattle.pid.proofs.record.Loop.give.Tie as tie
+
+abbrev l : tie.Start → Loop
+l s = s .args .self
+
+abbrev pvs : tie.Start → List ℤ
+pvs s = s .args .samples .now
+
+good : (s : tie.Start) → firstBad (readsOf (l s) (pvs s)) ≡ length (pvs s)
+good s = reads-good (l s) (pvs s) (s .pre .0) (s .pre .1)
 
 fixed-requires : tie.Need-fixed-requires
 fixed-requires c κs = search needs
@@ -17,20 +31,27 @@ moving-requires c κs = search needs
 run-requires : tie.Need-run-requires
 run-requires c κs =
     let s = c .before .before .before in
-    let h = holds-of (s .args .self) (s .pre .0) in
-    rw (c .before .before .fixed .ensures, c .before .moving .ensures) (fixed-ok _ h, moving-ok _ h, s .pre .1, s .pre .2)
+    let h = holds-of (l s) (s .pre .0) in
+    rw (c .before .before .fixed .ensures, c .before .moving .ensures) (fixed-ok _ h, moving-ok _ h, s .pre .2, ap firstBad (s .pre .3) ∙ good s)
 
--- what the loop over the samples gives, said of the record
+-- what the loop over the means gives, said of the record
 m-is : (c : tie.After-run) →
-    c .run .result ≡ movedAfter (fixedOf (c .before .before .before .before .args .self)) (movingOf (c .before .before .before .before .args .self)) (c .before .before .before .before .args .samples .now)
-m-is c = rw (c .before .before .before .fixed .ensures, c .before .before .moving .ensures) at (c .run .ensures .0)
+    let s = c .before .before .before .before in
+    c .run .result ≡ movedAfter (fixedOf (l s)) (movingOf (l s)) (readsOf (l s) (pvs s))
+m-is c =
+    let s = c .before .before .before .before in
+    (rw (c .before .before .before .fixed .ensures, c .before .before .moving .ensures) at (c .run .ensures .0))
+    ∙ ap (movedAfter (fixedOf (l s)) (movingOf (l s))) (s .pre .3)
+
+after-requires : tie.Need-after-requires
+after-requires c κs = search needs
 
 with-moving-requires : tie.Need-with-moving-requires
 with-moving-requires c κs =
-    let r = c .before in
+    let r = c .before .before .before in
     let s = r .before .before .before .before in
-    let h = holds-of (s .args .self) (s .pre .0) in
-    let m = all-ok _ _ _ (fixed-ok _ h) (moving-ok _ h) (s .pre .1) in
+    let h = holds-of (l s) (s .pre .0) in
+    let m = all-ok _ _ _ (fixed-ok _ h) (moving-ok _ h) (good s ∙ sym (reads-length (l s) (pvs s))) in
     rw (m-is r) (m .w, m .u)
 
 same-length : tie.Need-same-length
@@ -38,15 +59,22 @@ same-length c = search needs
 
 returns : tie.Need-returns
 returns c =
-    let r = c .before .before in
-    let s = r .before .before .before .before in
-    let l = s .args .self in
-    let pvs = s .args .samples .now in (
-      c .with-moving .ensures ∙ ap (withMoving l) (m-is r) ∙ sym (after-moved l (movingOf l) pvs),
-      rw (r .before .before .before .fixed .ensures, r .before .before .moving .ensures, ← outputs-moved l (movingOf l) pvs) at (r .run .ensures .1),
+    let a = c .before in
+    let r = a .before .before .before in
+    let s = r .before .before .before .before in (
+      c .with-moving .ensures ∙ ap₂ (withMoving (l s)) (a .after .ensures) (m-is r) ∙ sym (after-moved (l s) (l s .window) (movingOf (l s)) (pvs s)),
+      (rw (r .before .before .before .fixed .ensures, r .before .before .moving .ensures) at (r .run .ensures .1))
+          ∙ ap (λ (us : List ℤ). frontFilled us (s .args .out .now)) (ap (movedOutputs (fixedOf (l s)) (movingOf (l s))) (s .pre .3) ∙ sym (outputs-moved (l s) (l s .window) (movingOf (l s)) (pvs s))),
     )
 
 pub give-spec : {M : Type 1} → statement M
 give-spec =
     tie.close
-    (tie.spec fixed-requires moving-requires run-requires with-moving-requires same-length returns)
+    (tie.spec
+    fixed-requires
+    moving-requires
+    run-requires
+    after-requires
+    with-moving-requires
+    same-length
+    returns)

@@ -18,6 +18,9 @@ fine-ok-requires c κs = search needs
 pending-ok-requires : tie.Need-pending-ok-requires
 pending-ok-requires c κs = search needs
 
+is-valid-requires : tie.Need-is-valid-requires
+is-valid-requires c κs = search needs
+
 returns : tie.Need-returns
 unfolding valid
 returns c = cc
@@ -31,4 +34,5 @@ is-valid-spec =
     places-ok-requires
     fine-ok-requires
     pending-ok-requires
+    is-valid-requires
     returns)

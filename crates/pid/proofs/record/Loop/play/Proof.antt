@@ -1,17 +1,21 @@
-use mathlib.Core.Path.{_≡_, ap, _∙_}
+use Prim.Native.Nat.{_<_, _≤_}
+use mathlib.Core.Path.{_≡_, sym, ap, ap₂, _∙_}
 use mathlib.Core.Bool.{true}
 use mathlib.Core.List.{List}
 use native.Mathlib.Omega.{arith}
 use borrow.Author.Needs.{needs}
 use borrow.Author.Tests.{not-true, not-false}
 use lib.IntN.{ℤ}
-use lib.ListN.{length}
+use lib.ListN.{length, take}
+use Rattle.whole.specs.Numbers.{plus}
 use Rattle.whole.proofs.Truth.{so}
+use Rattle.window.specs.Means.{firstBad, frontFilled, meansInto}
+use Rattle.window.proofs.Bad.{bad-most}
+use Rattle.window.proofs.Taken.{into-bad, into-front, front-take, front-long, front-twice}
 use Rattle.pid.specs.declared.record.Loop.{Loop}
 use Rattle.pid.specs.Record.{valid}
-use Rattle.pid.specs.Play.{refusedOf}
-use Rattle.pid.proofs.Turns.{bad-most}
-use Rattle.pid.proofs.Plays.{code-10, code-12, code-4, code-0, plays-refused, plays-done}
+use Rattle.pid.specs.Play.{outputsOf, readsOf, refusedOf}
+use Rattle.pid.proofs.Plays.{code-10, code-12, code-4, code-0, plays-refused, plays-done, reads-length, outputs-length}
 use Rattle.pid.proofs.record.Loop.play.Statement.{statement}
 use Rattle.pid.proofs.record.Loop.play.Tie as tie
 
@@ -47,44 +51,96 @@ returns-2 c =
     let p = plays-refused (l s) (pvs s) (out s) 12 (code-12 (l s) (pvs s) (length (out s)) (so (v .ensures) (not-false (v .result) (c .before .before .if1 .left))) (c .before .if2 .taken)) (λ z. omega (arith, z)) in
     (c .refused2 .ensures ∙ p .0, p .1)
 
-bad-at-requires : tie.Need-bad-at-requires
-bad-at-requires c κs = search needs
+mean-requires : tie.Need-mean-requires
+mean-requires c κs = search needs
 
--- the rules hold where the samples are looked at
-rules : (c : tie.After-bad-at) → valid (l (c .before .before .before .before)) ≡ true
-rules c = let v = c .before .before .before .is-valid in so (v .ensures) (not-false (v .result) (c .before .before .if1 .left))
+means-requires : tie.Need-means-requires
+means-requires c κs = search needs
+
+-- what is known once the samples are looked at: the rules hold, there is room, the place, and what the list then holds
+abbrev start : tie.After-means → tie.Start
+start c = c .before .before .before .before .before .before .before
+
+rules : (c : tie.After-means) → valid (l (start c)) ≡ true
+rules c =
+    let e = c .before .before .before .before .before in
+    let v = e .before .is-valid in
+    so (v .ensures) (not-false (v .result) (e .if1 .left))
+
+room : (c : tie.After-means) → length (pvs (start c)) ≤ length (out (start c))
+room c = c .before .before .before .before .if2 .left
+
+place-is : (c : tie.After-means) → c .means .result ≡ firstBad (pvs (start c))
+place-is c = c .means .ensures .0
+
+list-is : (c : tie.After-means) → c .means .last .1 .1 .1 .0 ≡ meansInto (plus (l (start c) .settings .mean)) (l (start c) .window) (pvs (start c)) (out (start c))
+list-is c = rw (c .before .before .mean .ensures) at (c .means .ensures .1)
 
 refused-requires-3 : tie.Need-refused-requires-3
 refused-requires-3 c κs = search needs
 
+-- a bad sample leaves the list as it was
+bad : (c : tie.After-means) → c .means .result < length (pvs (start c)) → c .means .last .1 .1 .1 .0 ≡ out (start c)
+bad c h = list-is c ∙ sym (into-bad _ _ _ _ (omega (arith, place-is c, h)))
+
+same-length : tie.Need-same-length
+same-length c =
+    let m = c .before .before .before in
+    let e = ap length (bad m (c .before .if3 .taken)) in
+    search needs
+
 returns-3 : tie.Need-returns-3
 returns-3 c =
-    let t = c .before .before in
-    let s = t .before .before .before .before in
-    let e = t .bad-at .ensures in
-    let p = plays-refused (l s) (pvs s) (out s) 4 (code-4 (l s) (pvs s) (length (out s)) (rules t) (t .before .if2 .left) (rw e at (c .before .if3 .taken))) (λ z. omega (arith, z)) in
-    (c .refused3 .ensures ∙ ap (refusedOf (l s) 4) e ∙ p .0, p .1)
+    let t = c .before .before .before in
+    let s = start t in
+    let e = place-is t in
+    let h = c .before .if3 .taken in
+    let p = plays-refused (l s) (pvs s) (out s) 4 (code-4 (l s) (pvs s) (length (out s)) (rules t) (room t) (omega (arith, e, h))) (λ z. omega (arith, z)) in
+    (c .refused3 .ensures ∙ ap (refusedOf (l s) 4) e ∙ p .0, bad t h ∙ p .1)
+
+-- where none is bad it holds the means
+none : (c : tie.After-means) → length (pvs (start c)) ≤ c .means .result → length (pvs (start c)) ≤ firstBad (pvs (start c))
+none c h = omega (arith, place-is c, h)
+
+filled : (c : tie.After-means) → length (pvs (start c)) ≤ c .means .result →
+    c .means .last .1 .1 .1 .0 ≡ frontFilled (readsOf (l (start c)) (pvs (start c))) (out (start c))
+filled c h = list-is c ∙ sym (into-front _ _ _ _ (none c h) (room c))
 
 give-requires : tie.Need-give-requires
 give-requires c κs =
-    let t = c .before .before in
-    let e = t .bad-at .ensures in
-    let high = c .before .if3 .left in
-    let most = bad-most (pvs (t .before .before .before .before)) in
-    (rules t, omega arith, t .before .if2 .left)
+    let t = c .before .before .before in
+    let s = start t in
+    let h = c .before .if3 .left in
+    let r = readsOf (l s) (pvs s) in
+    let n = reads-length (l s) (pvs s) in
+    let e = filled t h in (
+      rules t,
+      omega (arith, none t h, bad-most (pvs s)),
+      omega (arith, ap length e, front-long r (out s) (omega (arith, n, room t)), room t),
+      ap₂ take (sym n) e ∙ front-take r (out s),
+    )
 
-same-length : tie.Need-same-length
-same-length c = search needs
+same-length-2 : tie.Need-same-length-2
+same-length-2 c =
+    let t = c .before .before .before .before .before in
+    let s = start t in
+    let h = c .before .before .before .if3 .left in
+    let e = ap length (filled t h) ∙ front-long (readsOf (l s) (pvs s)) (out s) (omega (arith, reads-length (l s) (pvs s), room t)) in
+    search needs
 
 returns-4 : tie.Need-returns-4
 returns-4 c =
     let g = c .before in
-    let t = g .before .before .before in
-    let s = t .before .before .before .before in
-    let high = g .before .before .if3 .left in
-    let e = t .bad-at .ensures in
-    let p = plays-done (l s) (pvs s) (out s) (code-0 (l s) (pvs s) (length (out s)) (rules t) (t .before .if2 .left) (omega arith)) in
-    (ap (λ (x : Loop). record { code = 0; place = 0; state = x }) (g .give .ensures .0) ∙ p .0, g .give .ensures .1 ∙ p .1)
+    let t = g .before .before .before .before in
+    let s = start t in
+    let h = g .before .before .if3 .left in
+    let p = plays-done (l s) (pvs s) (out s) (code-0 (l s) (pvs s) (length (out s)) (rules t) (room t) (none t h)) in (
+      ap (λ (x : Loop). record { code = 0; place = 0; state = x }) (g .give .ensures .0) ∙ p .0,
+      g .give .ensures .1
+          ∙ ap (frontFilled (outputsOf (l s) (pvs s))) (filled t h)
+          ∙ front-twice (outputsOf (l s) (pvs s)) (readsOf (l s) (pvs s)) (out s) (outputs-length (l s) (pvs s) ∙ sym (reads-length (l s) (pvs s)))
+          ∙ p .1,
+    )
 
 pub play-spec : {M : Type 1} → statement M
 play-spec =
@@ -95,9 +151,11 @@ play-spec =
     returns
     refused-requires-2
     returns-2
-    bad-at-requires
+    mean-requires
+    means-requires
     refused-requires-3
+    same-length
     returns-3
     give-requires
-    same-length
+    same-length-2
     returns-4)

@@ -1,81 +1,121 @@
+use Prim.Native.Nat.{ℕ}
 use mathlib.Core.Path.{_≡_, ap, ap₂, _∙_}
 use mathlib.Core.Bool.{true}
 use lib.IntN.{ℤ}
+use mir.Syntax.{w32}
+use mir.Val.{toZ, ofZ}
 use mir.Facts.{toZ-ofZ}
-use Rattle.whole.specs.Numbers.{Within}
+use Rattle.whole.specs.Numbers.{plus, Within}
 use Rattle.whole.proofs.Num.{nums, stays}
+use Rattle.settings.specs.Table.{reach, inReach}
+use Rattle.window.specs.declared.Window.{Window}
+use Rattle.window.specs.Window.{taken, latest, meanOf, meanAt}
 use Rattle.pid.specs.declared.record.Loop.{Loop}
 use Rattle.pid.specs.declared.sample.Fixed.{Fixed}
 use Rattle.pid.specs.declared.sample.Moving.{Moving}
-use Rattle.settings.specs.Table.{reach}
-use Rattle.pid.specs.Record.{inReach, valid}
+use Rattle.pid.specs.Record.{valid}
 use Rattle.pid.specs.Sample.{sensedOf, actedOf, movedOf}
 use Rattle.pid.specs.Bounds.{FixedOk, MovingOk}
-use Rattle.pid.specs.Law.{fixedOf, movingOf, sampleOf}
-use Rattle.pid.proofs.Sound.{holds-of, fixed-ok, moving-ok, in-range}
+use Rattle.pid.specs.Law.{withMoving, fixedOf, movingOf, readAt, sampleOf}
+use Rattle.pid.proofs.Sound.{holds-of, fixed-ok, moving-ok, read-in}
 use Rattle.pid.proofs.Samples.{sensed-ok, acted-ok}
 use borrow.Author.Needs.{needs}
 use Rattle.pid.proofs.record.Loop.sample.Statement.{statement}
 use Rattle.pid.proofs.record.Loop.sample.Tie as tie
 
--- what the two halves give, said of the loop
-z-is : (c : tie.After-sense) → c .sense .result ≡ sensedOf (c .before .before .fixed .result) (c .before .moving .result) (c .before .before .before .args .pv)
-z-is c = rw (toZ-ofZ (c .before .before .before .fits .pv)) at (c .sense .ensures)
+-- the window after the sample, and its mean, said of the loop
+abbrev start : tie.After-mean2 → tie.Start
+start c = c .before .before .before .before .before .before
 
-m-is : (c : tie.After-act) → c .act .result ≡ movedOf (fixedOf (c .before .before .before .before .args .self)) (movingOf (c .before .before .before .before .args .self)) (c .before .before .before .before .args .pv)
-m-is c =
-    let f = c .before .before .before .fixed in
-    let m = c .before .before .moving in
-    c .act .ensures ∙ ap (actedOf (f .result) (m .result)) (z-is (c .before))
-    ∙ ap₂ (λ (a : Fixed) (b : Moving). movedOf a b (c .before .before .before .before .args .pv)) (f .ensures) (m .ensures)
+abbrev window : tie.After-mean2 → Window
+window c = c .before .before .before .before .taken .result
+
+read-is : (c : tie.After-mean2) → toZ w32 (ofZ w32 (c .mean2 .result)) ≡ readAt (start c .args .self) (start c .args .pv)
+unfolding meanAt
+read-is c =
+    let s = start c in
+    let l = s .args .self in
+    let e : window c ≡ taken (l .window) (s .args .pv) = c .before .before .before .before .taken .ensures ∙ ap (taken (l .window)) (toZ-ofZ (s .fits .pv)) in
+    toZ-ofZ (search needs) ∙ c .mean2 .ensures ∙ ap₂ (λ (m : ℕ) (w : Window). meanOf (latest m w)) (c .before .mean .ensures) e
 
 record Ok (l : Loop) (pv : ℤ) : Type 0 where
   fixed : FixedOk (fixedOf l)
   moving : MovingOk (movingOf l)
-  pv-in : Within reach pv
+  read : Within reach (readAt l pv)
 
 ok : (l : Loop) (pv : ℤ) → (valid l ≡ true) × (inReach pv ≡ true) → Ok l pv
 ok l pv p =
     let h = holds-of l (p .0) in
-    record { fixed = fixed-ok l h; moving = moving-ok l h; pv-in = in-range 999999 pv (p .1) }
+    record { fixed = fixed-ok l h; moving = moving-ok l h; read = read-in l h pv (p .1) }
+
+-- what the two halves give
+z-is : (c : tie.After-sense) →
+    let s = start (c .before) .args in
+    c .sense .result ≡ sensedOf (fixedOf (s .self)) (movingOf (s .self)) (readAt (s .self) (s .pv))
+z-is c =
+    rw (c .before .before .before .before .fixed .ensures, c .before .before .before .moving .ensures, read-is (c .before)) at (c .sense .ensures)
+
+m-is : (c : tie.After-act) →
+    let s = start (c .before .before) .args in
+    c .act .result ≡ movedOf (fixedOf (s .self)) (movingOf (s .self)) (readAt (s .self) (s .pv))
+m-is c =
+    rw (c .before .before .before .before .before .fixed .ensures, c .before .before .before .before .moving .ensures, z-is (c .before)) at (c .act .ensures)
+
+taken-requires : tie.Need-taken-requires
+taken-requires c κs = search needs
 
 fixed-requires : tie.Need-fixed-requires
-fixed-requires c κs = c .pre .0
+fixed-requires c κs = c .before .before .pre .0
 
 moving-requires : tie.Need-moving-requires
 moving-requires c κs = search needs
 
+mean-requires : tie.Need-mean-requires
+mean-requires c κs = search needs
+
+mean-requires-2 : tie.Need-mean-requires-2
+mean-requires-2 c κs = search needs
+
 sense-requires : tie.Need-sense-requires
 sense-requires c κs =
-    let s = c .before .before in
+    let s = start c in
     let o = ok (s .args .self) (s .args .pv) (s .pre) in
-    let p = o .pv-in in
-    rw (c .before .fixed .ensures, c .moving .ensures) (o .fixed, o .moving, stays (search nums depth 9) tt)
+    rw (c .before .before .before .fixed .ensures, c .before .before .moving .ensures, read-is c) (o .fixed, o .moving, o .read)
 
 act-requires : tie.Need-act-requires
 act-requires c κs =
-    let s = c .before .before .before in
-    let o = ok (s .args .self) (s .args .pv) (s .pre) in
-    rw (z-is c, c .before .before .fixed .ensures, c .before .moving .ensures)
-    (o .fixed, o .moving, sensed-ok _ _ _ (o .fixed) (o .moving) (o .pv-in))
+    let s = start (c .before) in
+    let o = ok (s .args .self) (s .args .pv) (s .pre) in (
+      rw (c .before .before .before .before .fixed .ensures) (o .fixed),
+      rw (c .before .before .before .moving .ensures) (o .moving),
+      rw (z-is c) (sensed-ok _ _ _ (o .fixed) (o .moving) (o .read)),
+    )
 
 with-moving-requires : tie.Need-with-moving-requires
 with-moving-requires c κs =
-    let s = c .before .before .before .before in
+    let s = start (c .before .before) in
     let o = ok (s .args .self) (s .args .pv) (s .pre) in
-    let m = acted-ok _ _ _ (o .fixed) (o .moving) (sensed-ok _ _ _ (o .fixed) (o .moving) (o .pv-in)) in
+    let m = acted-ok _ _ _ (o .fixed) (o .moving) (sensed-ok _ _ _ (o .fixed) (o .moving) (o .read)) in
     rw (m-is c) (m .w, m .u)
 
 returns : tie.Need-returns
 unfolding sampleOf
-returns c = rw (c .with-moving .ensures, m-is (c .before))
+returns c =
+    let a = c .before in
+    let s = start (a .before .before) in
+    let l = s .args .self in
+    let w : window (a .before .before) ≡ taken (l .window) (s .args .pv) = a .before .before .before .before .before .before .taken .ensures ∙ ap (taken (l .window)) (toZ-ofZ (s .fits .pv)) in
+    c .with-moving .ensures ∙ ap₂ (withMoving l) w (m-is a)
 
 pub sample-spec : {M : Type 1} → statement M
 sample-spec =
     tie.close
     (tie.spec
+    taken-requires
     fixed-requires
     moving-requires
+    mean-requires
+    mean-requires-2
     sense-requires
     act-requires
     with-moving-requires

@@ -1,7 +1,7 @@
 use Rattle.whole.proofs.Truth.{zero-then}
-use Rattle.pid.specs.Record.{inReach}
 use mir.Syntax.{w32}
 use Rattle.whole.proofs.Bits.{back}
+use Rattle.settings.specs.Table.{inReach}
 use Rattle.pid.specs.Law.{refusalOf, stepOf}
 use borrow.Author.Needs.{needs}
 use Rattle.pid.proofs.record.Loop.step.Statement.{statement}
