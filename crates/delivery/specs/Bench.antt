@@ -8,6 +8,7 @@ use Rattle.command.specs.declared.Command.the-variants.{Sample, Hold, Put, Auto
 use Rattle.pid.specs.declared.record.Loop.{Loop}
 use Rattle.pid.specs.Units.{fine}
 use Rattle.settings.specs.SettingsC.{settingsC}
+use Rattle.window.specs.Window.{freshWindow}
 use Rattle.pid.specs.Record.{freshOf}
 use Rattle.memory.specs.declared.Last.the-variants.{Kept}
 use Rattle.memory.specs.Memory.{lastNumber}
@@ -59,6 +60,7 @@ atLimit k i = record {
   integral = i;
   primed = true;
   y = fine 400 0;
+  window = freshWindow;
 }
 
 -- "A fresh loop from C, in order": every row, and the cases below the log. Those that 01 marks * are marked here too

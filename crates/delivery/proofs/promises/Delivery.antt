@@ -19,6 +19,7 @@ use Rattle.pid.specs.Units.{fine}
 use Rattle.pid.specs.Record.{inB, valid}
 use Rattle.pid.specs.Law.{refusalOf, stepOf}
 use Rattle.command.specs.Sequence.{after}
+use Rattle.window.specs.Window.{freshWindow, windowOk}
 use Rattle.pid.proofs.Sound.{holds-of}
 use Rattle.pid.proofs.promises.Demand1 as law
 use Rattle.memory.specs.Memory.{lastNumber, isLast, lastOf}
@@ -105,5 +106,5 @@ end-state s ds v = end-from s v ds
 
 -- a record that keeps the state rules and is never reached: automatic, with nothing kept
 pub never-reached : validOf (newOf (atLimit 0 (fine 900 0))) ≡ true
-unfolding valid inTable rowsOf
+unfolding freshWindow windowOk valid inTable rowsOf
 never-reached = refl

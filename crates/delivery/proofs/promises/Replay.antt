@@ -18,6 +18,7 @@ use Rattle.window.proofs.Bad.{good-before, bad-at-place, all-good}
 use Rattle.window.specs.Means.{firstBad}
 use Rattle.pid.specs.Record.{freshOf, inB, valid}
 use Rattle.command.specs.Sequence.{after, each}
+use Rattle.window.specs.Window.{freshWindow, windowOk}
 use Rattle.pid.proofs.Sound.{holds-of}
 use Rattle.memory.specs.Memory.{lastNumber}
 use Rattle.memory.specs.Walk.{Answer}
@@ -144,5 +145,5 @@ integral-within s first samples out v =
 
 -- a replay that is not refused
 pub taken-C : replayRefusal (newOf (freshOf settingsC)) 1 (pos 480 ∷ []) 1 ≡ 0
-unfolding replayRefusal firstBad valid inTable rowsOf
+unfolding replayRefusal firstBad freshWindow windowOk valid inTable rowsOf
 taken-C = refl

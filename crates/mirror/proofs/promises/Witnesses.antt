@@ -13,6 +13,7 @@ use Rattle.window.specs.Means.{firstBad}
 use Rattle.command.specs.declared.Command.{Command}
 use Rattle.command.specs.declared.Command.the-variants.{Sample, Put, Automatic, Set}
 use Rattle.command.specs.Sequence.{after, each}
+use Rattle.window.specs.Window.{freshWindow, taken, meanAt, windowOk}
 use Rattle.pid.specs.declared.record.Loop.{Loop}
 use Rattle.pid.specs.Units.{F, fine, rounded}
 use Rattle.pid.specs.Record.{valid, madeOf as Loop·madeOf}
@@ -184,7 +185,7 @@ pub mirrored :
       played = negℤ (pos 1000) ∷ negℤ (pos 999) ∷ negℤ (pos 7) ∷ [];
       replayed = negℤ (pos 1000) ∷ negℤ (pos 999) ∷ negℤ (pos 7) ∷ [];
     })
-unfolding Loop·madeOf rounded rowsOf inTable valid lesser greater limited ramped filtered derivative sensedOf clamped backCalculated integrated actedOf sampleOf stepOf refusalOf lawOf isLast foundBy servedOf deliveredOf after each firstBad playRefusal wroteOf numbered replayRefusal writtenOf
+unfolding Loop·madeOf rounded rowsOf inTable freshWindow taken meanAt windowOk valid lesser greater limited ramped filtered derivative sensedOf clamped backCalculated integrated actedOf sampleOf stepOf refusalOf lawOf isLast foundBy servedOf deliveredOf after each firstBad playRefusal wroteOf numbered replayRefusal writtenOf
 mirrored = (refl, refl, refl)
 
 -- ---- "no value being the least of its type"

@@ -16,6 +16,7 @@ use Rattle.text.specs.declared.reader.Reading.{Reading}
 use Rattle.word.specs.Decimal.{isSize, hasMinus, unsigned, sizeOf, isDecimal, numberOf, shown}
 use Rattle.text.specs.Reader.{readText}
 use Rattle.text.proofs.SettingsC.{textC, c-read}
+use Rattle.window.specs.Window.{freshWindow, taken, meanAt, windowOk}
 use Rattle.stream.specs.Run.{refusedLine, keeping}
 use Rattle.answer.specs.Oven.{byAnswer, bySample, sampleLine}
 use Rattle.stream.specs.Feed.{judging, byteOf, finishing}
@@ -67,5 +68,5 @@ by-reading [] = refl
 by-reading (c ∷ cs) = ap (λ (os : List (List ℕ)). outputOf false textC (c .file) ∷ os) (by-reading cs)
 
 pub examples : played cases ≡ outputs cases
-unfolding rowsOf inTable rounded valid madeOf lesser greater limited ramped filtered derivative sensedOf clamped backCalculated integrated actedOf sampleOf stepOf refusalOf isLast foundBy servedOf deliveredOf isSize hasMinus unsigned sizeOf isDecimal numberOf shown refusedLine keeping byAnswer bySample sampleLine judging byteOf finishing firstLoop begunBy playedBy three malformed range empty unended outputs cases
+unfolding rowsOf inTable rounded freshWindow taken meanAt windowOk valid madeOf lesser greater limited ramped filtered derivative sensedOf clamped backCalculated integrated actedOf sampleOf stepOf refusalOf isLast foundBy servedOf deliveredOf isSize hasMinus unsigned sizeOf isDecimal numberOf shown refusedLine keeping byAnswer bySample sampleLine judging byteOf finishing firstLoop begunBy playedBy three malformed range empty unended outputs cases
 examples = by-reading cases ∙ ap (λ (d : Reading). playedBy d cases) c-read ∙ refl
