@@ -1,4 +1,5 @@
 pub mod Settings
+pub mod Windows
 pub mod Samples
 pub mod Loops
 pub mod Plays

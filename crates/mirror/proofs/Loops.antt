@@ -13,24 +13,27 @@ use Rattle.settings.specs.declared.Settings.{Settings}
 use Rattle.settings.specs.Table.{reach}
 use Rattle.command.specs.declared.Command.{Command}
 use Rattle.command.specs.declared.Command.the-variants.{Sample, Hold, Put, Automatic, Target, Set}
+use Rattle.window.specs.Window.{freshWindow}
 use Rattle.pid.specs.declared.record.Loop.{Loop}
 use Rattle.pid.specs.Units.{F, B, fineReach}
 use Rattle.pid.specs.Record.{freshOf, valid}
-use Rattle.pid.specs.Law.{signOf, fixedOf, movingOf, sampleOf, stepOf, refusalOf, lawOf}
+use Rattle.pid.specs.Law.{signOf, fixedOf, movingOf, readAt, sampleOf, stepOf, refusalOf, lawOf}
 use Rattle.pid.proofs.Sound.{Holds, holds-of, within-table, fixed-ok}
 use Rattle.pid.proofs.Shapes.{fixed-is}
 use Rattle.mirror.specs.Mirror.{Mirror, ofAction, ofTemperatures, flipTemperature, flipAction, flipSettings, flipCommand, flipLoop, flipObeyed}
 use Rattle.mirror.proofs.Settings.{range-neg, range-temperature, zero-temperature, table-mirror, ordered-mirror}
+use Rattle.mirror.proofs.Windows.{window-mirror, taken-mirror, mean-mirror}
 use Rattle.mirror.proofs.Samples.{flipSign, flipFixed, moved-mirror}
 
 pub fresh-mirror : (k : Mirror) (s : Settings) → freshOf (flipSettings k s) ≡ flipLoop k (freshOf s)
+unfolding freshWindow
 fresh-mirror ofAction s = refl
 fresh-mirror ofTemperatures s = refl
 
 pub valid-mirror : (k : Mirror) (l : Loop) → valid (flipLoop k l) ≡ valid l
 unfolding valid
 valid-mirror k l =
-    simp (table-mirror k (l .settings), ordered-mirror k (l .settings), range-temperature k reach (l .w), range-temperature k reach (l .target), inside-neg (l .settings .lo) (l .settings .hi) (l .u), range-neg B (l .integral), range-temperature k fineReach (l .y), zero-temperature k (l .y))
+    simp (table-mirror k (l .settings), ordered-mirror k (l .settings), range-temperature k reach (l .w), range-temperature k reach (l .target), inside-neg (l .settings .lo) (l .settings .hi) (l .u), range-neg B (l .integral), range-temperature k fineReach (l .y), zero-temperature k (l .y), window-mirror k (l .window))
 
 pub refusal-mirror : (k : Mirror) (l : Loop) (c : Command) → refusalOf (flipLoop k l) (flipCommand k c) ≡ refusalOf l c
 unfolding refusalOf
@@ -61,7 +64,12 @@ module _ (k : Mirror) (l : Loop) (h : Holds l) where
       let f = fixed-ok l h in
       let r = f .moves in
       let o = f .apart in
-      rw (fixed-mirror, moved-mirror k (fixedOf l) (movingOf l) pv (omega (arith, zs)) (omega (arith, zs)))
+      rw (
+        fixed-mirror,
+        taken-mirror k (l .window) pv,
+        mean-mirror k (plus (l .settings .mean)) (l .window) pv,
+        moved-mirror k (fixedOf l) (movingOf l) (readAt l pv) (omega (arith, zs)) (omega (arith, zs)),
+      )
 
   pub step-mirror : (c : Command) → stepOf (flipLoop k l) (flipCommand k c) ≡ flipLoop k (stepOf l c)
   unfolding stepOf

@@ -11,6 +11,7 @@ use Rattle.memory.specs.declared.Last.{Last}
 use Rattle.memory.specs.declared.Last.the-variants.{Nothing, Kept}
 use Rattle.delivery.specs.declared.numbered.Numbered.{Numbered}
 use Rattle.mirror.specs.Mirror.{Mirror, ofAction, ofTemperatures, flipTemperature, flipAction, flipCommand, flipLoop, flipLast, flipNumbered}
+use Rattle.mirror.proofs.Windows.{window-twice}
 
 temperature-twice : (k : Mirror) (z : ℤ) → flipTemperature k (flipTemperature k z) ≡ z
 temperature-twice ofAction z = refl
@@ -24,7 +25,7 @@ action-twice ofAction a =
 action-twice ofTemperatures a = refl
 
 -- `simp twices` takes away every sign that is flipped twice
-ruleset twices = (temperature-twice, action-twice, negℤ-negℤ)
+ruleset twices = (temperature-twice, action-twice, window-twice, negℤ-negℤ)
 
 pub command-twice : (k : Mirror) (c : Command) → flipCommand k (flipCommand k c) ≡ c
 command-twice k (Sample pv) = cc (temperature-twice k pv)

@@ -1,5 +1,6 @@
 -- 02, request 3: mirrored loops. What each mirror makes of a number, of a command, of a record and of an answer.
 use mathlib.Core.Path.{_≡_}
+use mathlib.Core.List.{map}
 use lib.IntN.{ℤ, pos, negsuc, negℤ, _-ℤ_}
 use mir.Syntax.{w32}
 use mir.Val.{SFits}
@@ -7,6 +8,7 @@ use Rattle.settings.specs.declared.Settings.{Settings}
 use Rattle.command.specs.declared.Command.{Command}
 use Rattle.command.specs.declared.Command.the-variants.{Sample, Hold, Put, Automatic, Target, Set}
 use Rattle.command.specs.Command.{valueOf, secondOf}
+use Rattle.window.specs.declared.Window.{Window}
 use Rattle.pid.specs.declared.record.Loop.{Loop}
 use Rattle.pid.specs.declared.law.Obeyed.{Obeyed}
 use Rattle.pid.specs.declared.play.Played.{Played}
@@ -45,6 +47,7 @@ flipSettings k s = record {
   out = negℤ (s .out);
   sp = flipTemperature k (s .sp);
   rate = s .rate;
+  mean = s .mean;
   gains = s .gains;
 }
 
@@ -57,6 +60,11 @@ flipCommand k (Target t r) = Target (flipTemperature k t) r
 flipCommand k (Set n) = Set n
 
 -- ---- a loop, and what the plain law answers
+
+-- the raw temperatures
+abbrev pub flipWindow : Mirror → Window → Window
+flipWindow ofAction w = w
+flipWindow ofTemperatures w = record { places = map negℤ (w .places); seen = w .seen }
 
 abbrev pub flipLoop : Mirror → Loop → Loop
 flipLoop k l = record {
@@ -71,6 +79,7 @@ flipLoop k l = record {
   integral = negℤ (l .integral);
   primed = l .primed;
   y = flipTemperature k (l .y);
+  window = flipWindow k (l .window);
 }
 
 abbrev pub flipObeyed : Mirror → Obeyed → Obeyed

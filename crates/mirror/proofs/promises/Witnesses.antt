@@ -18,7 +18,7 @@ use Rattle.pid.specs.declared.record.Loop.{Loop}
 use Rattle.pid.specs.Units.{F, fine, rounded}
 use Rattle.pid.specs.Record.{valid, madeOf as Loop·madeOf}
 use Rattle.pid.specs.Sample.{lesser, greater, limited, ramped, filtered, derivative, sensedOf, vOf, limitedV, clamped, backCalculated, integrated, actedOf}
-use Rattle.pid.specs.Law.{fixedOf, movingOf, sampleOf, stepOf, refusalOf, lawOf}
+use Rattle.pid.specs.Law.{fixedOf, movingOf, readAt, sampleOf, stepOf, refusalOf, lawOf}
 use Rattle.pid.specs.Run.{sensedAt}
 use Rattle.pid.specs.Play.{playRefusal, wroteOf}
 use Rattle.memory.specs.Memory.{isLast, foundBy}
@@ -42,6 +42,7 @@ like action lo hi out sp = filled shortSets (record {
   out = out;
   sp = sp;
   rate = pos 50;
+  mean = pos 1;
   gains =
       gainSet 0 0 0 1 0
       ∷ gainSet 65536 0 32768 32768 32768
@@ -69,7 +70,7 @@ accepted = (refl, refl, refl)
 
 -- (pv × F - y) × alpha: the filter's step
 abbrev follow : Loop → ℤ → ℤ
-follow l pv = (pv *ℤ pos F -ℤ l .y) *ℤ fixedOf l .alpha
+follow l pv = (readAt l pv *ℤ pos F -ℤ l .y) *ℤ fixedOf l .alpha
 
 -- kd × s × (y - y'): D
 abbrev slope : Loop → ℤ → ℤ
