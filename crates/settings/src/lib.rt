@@ -4,7 +4,7 @@ ghost use Prim.Native.Nat.{_+_, _<_, _≤_};
 ghost use lib.IntN.{pos};
 ghost use lib.ListN.{getD};
 ghost use Rattle.settings.specs.Table.{heads, keys, sets, lines};
-ghost use Rattle.settings.specs.Settings.{noGains, gainValues, gainsFrom, setsFrom, headValues, valuesOf, settingsOf, filled, blankSettings, ordered, settingsRefusal};
+ghost use Rattle.settings.specs.Settings.{noGains, gainValues, gainsFrom, setsFrom, headValues, valuesOf, settingsOf, unread, filled, blankSettings, ordered, settingsRefusal};
 
 pub mod table;
 
@@ -49,6 +49,9 @@ impl Settings {
 
     // How many keys stand before those of the gain sets: action, lo, hi, out, sp, rate, mean.
     pub const HEAD: usize = 7;
+
+    // Of these, how many every text has: those before mean.
+    pub const FIRST: usize = 6;
 
     // How many stand in each gain set: kp, ki, kd, alpha, kt.
     pub const KEYS: usize = 5;
@@ -155,6 +158,15 @@ impl Settings {
             mean: values[6],
             gains,
         }
+    }
+
+    // Values before any line of a text is read: a text without the line mean "is read as mean 1".
+    pub fn unread() -> [i32; Settings::LINES]
+        ensures { λ r. ⌜ r ≡ unread ⌝ }
+    {
+        let mut values = [0i32; Settings::LINES];
+        values[Settings::FIRST] = 1;
+        values
     }
 
     // The settings with set 0 in the place of each set from n on.
