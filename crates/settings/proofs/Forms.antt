@@ -8,12 +8,13 @@ use native.Mathlib.Omega.{arith}
 use borrow.Author.Tests.{ltb-true, ltb-false, eqb-true, eqb-false}
 use lib.Dec.{ltb, eqb}
 use lib.IntN.{ℤ}
-use lib.ListN.{length, getD, take, drop, set, length-append, length-drop, length-take, take-append-drop, List·getD-append}
+use lib.ListN.{length, getD, take, drop, set, length-set, length-append, length-drop, length-take, take-append-drop, List·getD-append}
 use lib.Seq.{length-take-le, take-append-le, drop-append-le, drop-append-add, getD-append-add, getD-take, getD-drop, set-append-left, take-at, drop-at, take-set-le, take-set-lt, drop-set-lt, drop-set-add}
 use Rattle.whole.proofs.Truth.{both, and, by-test}
 use Rattle.settings.specs.declared.table.Row.{Row}
-use Rattle.settings.specs.Table.{firstRows, laterRows, headRows, firsts, heads, setRows, each, numbersFrom, rowsOf, picked, placeOf}
-use Rattle.settings.specs.Settings.{absent, completed, unread, allIn}
+use Rattle.settings.specs.Table.{firstRows, laterRows, headRows, sets, firsts, heads, linesFor, lines, setRows, each, numbersFrom, rowsOf, picked, placeOf}
+use Rattle.settings.specs.Settings.{absent, settingsOf, completed, filled, unread, allIn}
+use Rattle.settings.proofs.Values.{filled-first}
 use Rattle.settings.proofs.Ranges.{all-append, all-from}
 
 -- ---- the elements whose rows have a line
@@ -119,7 +120,7 @@ module _ (h : ℕ) (l : firsts ≤ h) (m : h ≤ heads) where
   -- ---- values within the ranges of their rows
 
   module _ (n : ℕ) where
-    rows-picked : picked h (rowsOf n) ≡ take h headRows ++ each setRows (numbersFrom 0 n)
+    pub rows-picked : picked h (rowsOf n) ≡ take h headRows ++ each setRows (numbersFrom 0 n)
     unfolding rowsOf
     rows-picked = ap (λ (rs : List Row). rs ++ each setRows (numbersFrom 0 n)) (take-append-le h headRows (each setRows (numbersFrom 0 n)) m)
 
@@ -147,7 +148,7 @@ module _ (h : ℕ) (l : firsts ≤ h) (m : h ≤ heads) where
         ∙ and (b .0) (all-append qs ss a (drop h vs) q ∙ and (all-from (h - firsts) laterRows absent refl) (b .1))
 
   -- and so do the values of the rows that have a line
-  pub picked-in : (rs : List Row) (vs : List ℤ) → heads ≤ length rs → length vs ≡ length rs → allIn rs vs ≡ true → allIn (picked h rs) (picked h vs) ≡ true
+  pub picked-in : (rs : List Row) (vs : List ℤ) → heads ≤ length rs → heads ≤ length vs → allIn rs vs ≡ true → allIn (picked h rs) (picked h vs) ≡ true
   picked-in rs vs k n e =
       let p : length (take h vs) ≡ length (take h rs) = length-take h vs ∙ omega (arith, length-take h rs) in
       let b = both (allIn (take h rs) (take h vs)) (allIn (drop h rs) (drop h vs))
@@ -159,3 +160,30 @@ pub unread-completed : (h : ℕ) → firsts ≤ h → h ≤ heads → completed 
 unread-completed h l m = by-test (eqb h firsts)
     (λ t. ap (λ (k : ℕ). completed k (picked k unread)) (eqb-true h firsts t))
     (λ t. let p : h ≡ heads = omega (arith, eqb-false h firsts t) in ap (λ (k : ℕ). completed k (picked k unread)) p)
+
+-- ---- all values, where those of the lines left out are the ones that stand for them
+
+module _ (h : ℕ) (l : firsts ≤ h) (m : h ≤ heads) (vs : List ℤ) (n : length vs ≡ lines) (e : completed h (picked h vs) ≡ vs) where
+  lines-long : length (picked h vs) ≡ linesFor h sets
+  lines-long = picked-long h m vs (omega arith) ∙ omega arith
+
+  -- the value of line i stored at its place
+  pub picked-set : (i : ℕ) (z : ℤ) →
+      (picked h (set vs (placeOf h i) z) ≡ set (picked h vs) i z)
+      × (completed h (picked h (set vs (placeOf h i) z)) ≡ set vs (placeOf h i) z)
+  picked-set i z =
+      let ws = picked h vs in
+      let k = lines-long in
+      let p : set vs (placeOf h i) z ≡ completed h (set ws i z) =
+      ap (λ (xs : List ℤ). set xs (placeOf h i) z) (sym e) ∙ completed-set h l m ws i z (omega arith) in
+      let q = ap (picked h) p ∙ picked-completed h l m (set ws i z) (rw length-set (omega arith)) in
+      (q, ap (completed h) q ∙ sym p)
+
+  -- those of the lines of k gain sets make the same settings
+  pub filled-picked : (k : ℕ) → 1 ≤ k → k ≤ sets → filled k (settingsOf (completed h (take (linesFor h k) (picked h vs)))) ≡ filled k (settingsOf vs)
+  filled-picked k a b =
+      let j = lines-long in
+      let p : heads - h + linesFor h k ≡ linesFor heads k = omega arith in
+      ap (λ (xs : List ℤ). filled k (settingsOf xs))
+      (completed-take h l m (picked h vs) (linesFor h k) (omega arith) (omega arith) ∙ ap₂ take p e)
+      ∙ filled-first k vs a b
