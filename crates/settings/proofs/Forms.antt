@@ -27,6 +27,13 @@ module _ {A : Type 0} (h : ℕ) (m : h ≤ heads) (xs : List A) (l : heads ≤ l
   pub picked-long : length (picked h xs) ≡ h + (length xs - heads)
   picked-long = simp (length-append, length-take, length-drop) (omega arith)
 
+  -- its parts
+  pub take-picked : take h (picked h xs) ≡ take h xs
+  take-picked = take-at (take h xs) (drop heads xs) h (length-take-le h xs (omega arith))
+
+  pub drop-picked : drop h (picked h xs) ≡ drop heads xs
+  drop-picked = drop-at (take h xs) (drop heads xs) h (length-take-le h xs (omega arith))
+
   pub picked-append : (ys : List A) → picked h (xs ++ ys) ≡ picked h xs ++ ys
   picked-append ys =
       ap₂ (λ (ys zs : List A). ys ++ zs) (take-append-le h xs ys (omega arith)) (drop-append-le heads xs ys l)

@@ -56,7 +56,7 @@ impl Settings {
     // How many stand in each gain set: kp, ki, kd, alpha, kt.
     pub const KEYS: usize = 5;
 
-    // The lines of a settings text, and so the values of settings.
+    // The lines of a settings text that leaves none out, and so the values of settings.
     pub const LINES: usize = Settings::HEAD + Settings::KEYS * Settings::SETS;
 }
 
@@ -115,7 +115,7 @@ impl Settings {
         all[i]
     }
 
-    // The value of line i of the text, counted from 0; 0 past the last.
+    // The value of line i of such a text, counted from 0; 0 past the last.
     pub fn value(self, i: usize) -> i32
         ensures { λ r. ⌜ r ≡ getD (valuesOf self) i (pos 0) ⌝ }
     {

@@ -7,10 +7,10 @@ use native.Mathlib.Nat.{add-zero}
 use native.Mathlib.Omega.{arith}
 use borrow.Author.Tests.{lt-ltb}
 use lib.IntN.{ℤ, pos, negsuc, natAbs}
-use lib.ListN.{length, drop, length-append}
+use lib.ListN.{length, take, drop, length-append}
 use lib.Signed.{leZ}
 use lib.Seq.{drop-at}
-use Rattle.whole.proofs.Truth.{both, and}
+use Rattle.whole.proofs.Truth.{never, both, and}
 use Rattle.whole.specs.Numbers.{inside}
 use Rattle.whole.proofs.Parts.{zs, inside-yes}
 use Rattle.settings.specs.declared.table.Row.{Row}
@@ -119,16 +119,16 @@ lines-read h k (r ∷ rs) more n before (z ∷ vs) s l i e =
     ∙ ap₂ (λ (j : ℕ) (x : List ℤ). readFrom h k more j x s) m (append-assoc before (z ∷ []) vs))
 
 -- what stands after the first n of them
-pub lines-past : (n : ℕ) (rs : List Row) (vs : List ℤ) (s : List ℕ) → all lined rs ≡ true → allIn rs vs ≡ true → length vs ≡ length rs → n ≤ length rs →
+pub lines-past : (n : ℕ) (rs : List Row) (vs : List ℤ) (s : List ℕ) → all lined rs ≡ true → allIn rs vs ≡ true → n ≤ length rs →
     afterLines n (linesOf rs vs ++ s) ≡ linesOf (drop n rs) (drop n vs) ++ s
-lines-past zero rs vs s l i h m = refl
-lines-past (suc n) [] vs s l i h m = absurd (omega arith)
-lines-past (suc n) (r ∷ rs) [] s l i h m = absurd (omega arith)
-lines-past (suc n) (r ∷ rs) (z ∷ vs) s l i h m =
+lines-past zero rs vs s l i m = refl
+lines-past (suc n) [] vs s l i m = absurd (omega arith)
+lines-past (suc n) (r ∷ rs) [] s l i m = never i
+lines-past (suc n) (r ∷ rs) (z ∷ vs) s l i m =
     let p = both (lined r) (all lined rs) l in
     let q = both (inRow r z) (allIn rs vs) i in
     rw (append-assoc (lineOf r z) (linesOf rs vs) s)
-    (ap (afterLines n) (line-read r z (linesOf rs vs ++ s) (p .0) (q .0) .after) ∙ lines-past n rs vs s (p .1) (q .1) (omega arith) (omega arith))
+    (ap (afterLines n) (line-read r z (linesOf rs vs ++ s) (p .0) (q .0) .after) ∙ lines-past n rs vs s (p .1) (q .1) (omega arith))
 
 -- the values of a text's lines
 abbrev pub valuesIn : List Row → List ℕ → List ℤ
@@ -159,13 +159,17 @@ pub valued : (rs : List Row) (s : List ℕ) → length (valuesIn rs s) ≡ lengt
 valued [] s = refl
 valued (r ∷ rs) s = ap suc (valued rs (afterLine s))
 
--- the lines of the first values, and of the others
-pub lines-both : (rs qs : List Row) (vs ws : List ℤ) → length vs ≡ length rs → linesOf (rs ++ qs) (vs ++ ws) ≡ linesOf rs vs ++ linesOf qs ws
-lines-both [] qs [] ws h = refl
-lines-both [] qs (z ∷ vs) ws h = absurd (omega arith)
-lines-both (r ∷ rs) qs [] ws h = absurd (omega arith)
-lines-both (r ∷ rs) qs (z ∷ vs) ws h =
-    ap (λ (x : List ℕ). lineOf r z ++ x) (lines-both rs qs vs ws (omega arith)) ∙ sym (append-assoc (lineOf r z) (linesOf rs vs) (linesOf qs ws))
+-- the first n lines, and the others
+lines-none : (rs : List Row) → linesOf rs [] ≡ []
+lines-none [] = refl
+lines-none (r ∷ rs) = refl
+
+pub lines-split : (n : ℕ) (rs : List Row) (vs : List ℤ) → linesOf rs vs ≡ linesOf (take n rs) (take n vs) ++ linesOf (drop n rs) (drop n vs)
+lines-split zero rs vs = refl
+lines-split (suc n) [] vs = refl
+lines-split (suc n) (r ∷ rs) [] = sym (lines-none (drop n rs))
+lines-split (suc n) (r ∷ rs) (z ∷ vs) =
+    ap (λ (x : List ℕ). lineOf r z ++ x) (lines-split n rs vs) ∙ sym (append-assoc (lineOf r z) (linesOf (take n rs) (take n vs)) (linesOf (drop n rs) (drop n vs)))
 
 -- values that have no row count for nothing
 pub lines-front : (rs : List Row) (vs ws : List ℤ) → length vs ≡ length rs → linesOf rs (vs ++ ws) ≡ linesOf rs vs
