@@ -84,6 +84,13 @@ inside c =
 place-requires : tie.Need-place-requires Inv-loop μ-loop
 place-requires c κs = (head (c .before .before .before .before .before) .1, omega (arith, inside (c .before)))
 
+-- and so is the place of its row
+placed : (c : tie.After-place Inv-loop μ-loop) → c .place .result < lines
+placed c =
+    let s = c .before .before .before .before .before in
+    let t = c .before .before .loop-test .taken in
+    rw (c .place .ensures) (place-in (s .before .heads-in .result) (s .sets-in .result) (c .before .before .before .loop .i) (head (s .before) .1) (some s .1) t)
+
 at-requires : tie.Need-at-requires Inv-loop μ-loop
 at-requires c κs = search needs
 
@@ -129,7 +136,7 @@ turn c =
     ∙ ap (λ (rs : List Row). readFrom h k rs (l .i + 1) (take (l .i) (picked h (l .values))) (now (l .rest))) (form-next h k (head (s .before) .1) (l .i) (c .loop-test .taken))
 
 add-refused : tie.Need-add-refused Inv-loop μ-loop
-add-refused c = omega (arith, inside (c .before .before .before .before .before))
+add-refused c = omega (arith, inside (c .before .before .before .before .before), placed (c .before .before .before))
 
 refused-requires : tie.Need-refused-requires Inv-loop μ-loop
 refused-requires c κs = search needs
@@ -163,18 +170,11 @@ room c =
     let s = now (c .before .before .before .before .before .before .loop .rest) in
     omega (arith, c .before .before .before .before .end-at .ensures, feed-there s (line-yes _ s (taken c) .closed))
 
--- and the place of its row is one of all
-placed : (c : tie.After-place Inv-loop μ-loop) → c .place .result < lines
-placed c =
-    let s = c .before .before .before .before .before in
-    let t = c .before .before .loop-test .taken in
-    rw (c .place .ensures) (place-in (s .before .heads-in .result) (s .sets-in .result) (c .before .before .before .loop .i) (head (s .before) .1) (some s .1) t)
-
 mul-values : tie.Need-mul-values Inv-loop μ-loop
-mul-values c = omega (arith, placed (c .before .before .before .before))
+mul-values c = omega (arith, inside (c .before .before .before .before .before .before), placed (c .before .before .before .before))
 
 array-set-from-values : tie.Need-array-set-from-values Inv-loop μ-loop
-array-set-from-values c = placed (c .before .before .before .before)
+array-set-from-values c = omega (arith, inside (c .before .before .before .before .before .before), placed (c .before .before .before .before))
 
 add-rest : tie.Need-add-rest Inv-loop μ-loop
 add-rest c = omega (arith, room (c .before), c .before .before .before .before .before .before .before .loop .inv .2)
