@@ -47,11 +47,11 @@ impl Settings {
     // "Raise four to sixteen": gain sets 0 to 15.
     pub const SETS: usize = 16;
 
-    // How many keys stand before those of the gain sets: action, lo, hi, out, sp, rate, mean.
-    pub const HEAD: usize = 7;
-
-    // Of these, how many every text has: those before mean.
+    // How many keys every text has before those of the gain sets: action, lo, hi, out, sp, rate.
     pub const FIRST: usize = 6;
+
+    // How many stand before those of the gain sets, with mean.
+    pub const HEAD: usize = Settings::FIRST + 1;
 
     // How many stand in each gain set: kp, ki, kd, alpha, kt.
     pub const KEYS: usize = 5;

@@ -1,9 +1,9 @@
 -- The text in its forms: settings written are read back the same, a text read is written back, and where and how every other
 -- text is refused.
-use Prim.Native.Nat.{ℕ, suc, _+_, _-_, _*_, _<_, _≤_}
+use Prim.Native.Nat.{ℕ, _+_, _-_, _*_, _<_, _≤_}
 use mathlib.Core.Path.{_≡_, refl, sym, ap, ap₂, subst, _∙_}
 use mathlib.Core.Bool.{true, false}
-use mathlib.Core.List.{List, [], _∷_, _++_, append-assoc, append-nil}
+use mathlib.Core.List.{List, [], _∷_, _++_, append-nil}
 use native.Mathlib.Omega.{arith}
 use borrow.Author.Tests.{lt-ltb, ltb-true, ltb-false, eqb-true, eqb-false}
 use lib.Dec.{ltb, eqb}
@@ -15,11 +15,11 @@ use Rattle.whole.proofs.Truth.{by-test}
 use Rattle.whole.proofs.Lists.{next}
 use Rattle.settings.specs.declared.table.Row.{Row}
 use Rattle.settings.specs.declared.Settings.{Settings}
-use Rattle.settings.specs.Table.{laterRows, each, firsts, heads, keys, sets, shortSets, linesFor, lines, rowsOf, rows, picked, noRow}
+use Rattle.settings.specs.Table.{laterRows, each, firsts, heads, keys, sets, shortSets, linesFor, rowsOf, rows, picked, noRow}
 use Rattle.settings.specs.Settings.{gainsAt, gainsFrom, gainValues, allIn, inTable, settingsRefusal, valuesOf, settingsOf, absent, completed, filled}
 use Rattle.settings.proofs.Lists.{all, all-take}
 use Rattle.settings.proofs.Rows.{rows-long, rows-parts, values-long}
-use Rattle.settings.proofs.Values.{values-filled, settings-values, filled-first, filled-all, filled-long, filled-at, filled-twice}
+use Rattle.settings.proofs.Values.{values-filled, settings-values, filled-all, filled-long, filled-at, filled-twice}
 use Rattle.settings.proofs.Ranges.{rows-front, filled-in}
 use Rattle.settings.proofs.Forms.{picked-long, take-picked, drop-picked, picked-append, completed-long, completed-append, completed-in, picked-completed, picked-in, filled-picked}
 use Rattle.word.specs.Decimal.{shown}

@@ -1,9 +1,6 @@
 use mathlib.Core.Path.{_≡_, sym, ap, _∙_}
-use mathlib.Core.List.{List}
 use borrow.Author.Needs.{needs}
-use borrow.Author.Tests.{not-true, not-false}
 use Rattle.whole.specs.Words.{bytes}
-use Rattle.whole.proofs.Truth.{so}
 use Rattle.word.specs.End.{begins}
 use Rattle.text.specs.Reader.{afterLines}
 use Rattle.settings.specs.Table.{firsts}
