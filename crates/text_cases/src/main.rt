@@ -455,7 +455,6 @@ fn means() {
 // "with the line request 5's 26 and 27 are one more"
 fn mean_forms() {
     read_made(b"27-lines-with-mean", Made::c(true, true));
-    read_made(b"87-lines-with-mean", Made::c(true, false));
     cases(
         Made::c(true, false),
         true,
@@ -484,28 +483,30 @@ fn mean_forms() {
         Made::c(true, false),
         false,
         b"kt15-65537-with-mean|87|kt15=65537\n|\
-          lo-is-hi-in-87-lines|03|hi=0\n|\
           a-byte-after-line-87|87|kt15=0\nx|",
     );
 }
 
-// 1,053 bytes are accepted, 1,054 have lo = hi, and a byte more comes before that. So too 1,044 and 1,045 without mean, and 315
-// and 316 of 27 lines, and 306 and 307 of 26, but that a byte more is line 28 or line 27.
+// 1,053 bytes are accepted, 1,054 have lo = hi, and a byte more comes before that; so too 1,044 and 1,045 without mean.
 fn lengths() {
     let many = [b'a'; 4096];
+    read(b"4096-bytes-and-no-line-feed", &many);
     read_made(b"1053-bytes", Made::longest(true, false));
     read_made(b"1054-bytes", Made::level(true, false));
     read_made(b"1055-bytes", Made::level(true, false).with(b"x"));
     read_made(b"1044-bytes", Made::longest(false, false));
     read_made(b"1045-bytes", Made::level(false, false));
     read_made(b"1046-bytes", Made::level(false, false).with(b"x"));
+}
+
+// 315 and 316 of 27 lines, and 306 and 307 of 26, but that a byte more is the line after them.
+fn short_lengths() {
     read_made(b"315-bytes", Made::longest(true, true));
     read_made(b"316-bytes", Made::level(true, true));
     read_made(b"317-bytes", Made::level(true, true).with(b"x"));
     read_made(b"306-bytes", Made::longest(false, true));
     read_made(b"307-bytes", Made::level(false, true));
     read_made(b"308-bytes", Made::level(false, true).with(b"x"));
-    read(b"4096-bytes-and-no-line-feed", &many);
 }
 
 // ---- the writer
@@ -614,19 +615,16 @@ fn beside(name: &[u8], made: Made) {
 // Every form is written in full.
 fn trips() {
     let c = Made::c(true, false);
-    let longest = Made::longest(true, false);
-    let one = longest.case(false, 7, b"mean=1\n");
     again(b"c-again", c, c);
     again(b"short-c-again", Made::c(true, true), c);
     again(b"c-without-mean-again", Made::c(false, false), c);
     again(b"short-c-without-mean-again", Made::c(false, true), c);
+}
+
+fn longest_trips() {
+    let longest = Made::longest(true, false);
+    let one = longest.case(false, 7, b"mean=1\n");
     again(b"longest-again", longest, longest);
-    again(b"short-longest-again", Made::longest(true, true), longest);
-    again(
-        b"longest-without-mean-again",
-        Made::longest(false, false),
-        one,
-    );
     again(
         b"short-longest-without-mean-again",
         Made::longest(false, true),
@@ -706,9 +704,11 @@ fn main() {
     means();
     mean_forms();
     lengths();
+    short_lengths();
     rooms();
     wrongs();
     trips();
+    longest_trips();
     blanks();
     decimals();
     long_words();
