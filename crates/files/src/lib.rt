@@ -99,8 +99,8 @@ fn start(journal: bool, settings: &[u8], path: &[u8]) {
     }
 }
 
-// The settings file: its first 4,096 bytes, which decide its reading. 86 lines that pass 14 and 15 have at most 1,045 bytes
-// (1,044 where 16 passes too), so of what follows them it matters only that it is there (17). A read that fails answers no
+// The settings file: its first 4,096 bytes, which decide its reading. 87 lines that pass 14 and 15 have at most 1,054 bytes
+// (1,053 where 16 passes too), so of what follows them it matters only that it is there (17). A read that fails answers no
 // bytes, and so does the end of the file; the read after it tells them apart.
 fn settings(journal: bool, path: &[u8], file: &[u8]) {
     let fd = os::open_read(path);

@@ -5,7 +5,7 @@ use mathlib.Core.Bool.{Bool, true, _&&_}
 use mathlib.Core.List.{List, [], _∷_, _++_, append-assoc}
 use native.Mathlib.Nat.{add-zero, zero-add}
 use native.Mathlib.Omega.{arith}
-use lib.ListN.{length, getD, take, length-append, List·getD-append}
+use lib.ListN.{length, getD, take, drop, length-append, List·getD-append}
 use lib.Seq.{getD-append-add}
 use Rattle.whole.proofs.Truth.{both, and}
 use Rattle.settings.specs.Table.{each, numbersFrom}
@@ -66,3 +66,8 @@ pub all-take : {A : Type 0} (f : A → Bool) (xs : List A) (k : ℕ) → all f x
 all-take f xs zero e = refl
 all-take f [] (suc k) e = refl
 all-take f (x ∷ xs) (suc k) e = let b = both (f x) (all f xs) e in and (b .0) (all-take f xs k (b .1))
+
+pub all-drop : {A : Type 0} (f : A → Bool) (xs : List A) (k : ℕ) → all f xs ≡ true → all f (drop k xs) ≡ true
+all-drop f xs zero e = e
+all-drop f [] (suc k) e = refl
+all-drop f (x ∷ xs) (suc k) e = all-drop f xs k (both (f x) (all f xs) e .1)

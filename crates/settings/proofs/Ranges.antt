@@ -90,7 +90,7 @@ again-in g k (suc n) e =
     ∙ rw (e, again-in g (k + 1) n e)
 
 -- set 0, of values within the ranges of their rows
-first-in : (n : ℕ) (vs : List ℤ) → length vs ≡ linesFor (suc n) → allIn (rowsOf (suc n)) vs ≡ true → allIn gainRows (gainValues (gainsFrom heads vs)) ≡ true
+first-in : (n : ℕ) (vs : List ℤ) → length vs ≡ linesFor heads (suc n) → allIn (rowsOf (suc n)) vs ≡ true → allIn gainRows (gainValues (gainsFrom heads vs)) ≡ true
 unfolding rowsOf
 first-in n vs h e =
     let s = settingsOf vs in
@@ -101,7 +101,7 @@ first-in n vs h e =
     let p = both (allIn headRows (headValues s)) (allIn (setRows 0 ++ ks) (g ++ gs)) (sym (all-append headRows (setRows 0 ++ ks) (headValues s) (g ++ gs) refl) ∙ v) in
     both (allIn gainRows g) (allIn ks gs) (sym (all-append (setRows 0) ks g gs refl) ∙ p .1) .0
 
-pub filled-in : (n : ℕ) (vs : List ℤ) → 1 ≤ n → n ≤ sets → length vs ≡ linesFor n → allIn (rowsOf n) vs ≡ true → inTable (filled n (settingsOf vs)) ≡ true
+pub filled-in : (n : ℕ) (vs : List ℤ) → 1 ≤ n → n ≤ sets → length vs ≡ linesFor heads n → allIn (rowsOf n) vs ≡ true → inTable (filled n (settingsOf vs)) ≡ true
 unfolding inTable
 filled-in zero vs l m h e = absurd (omega arith)
 filled-in (suc n) vs l m h e =
@@ -121,7 +121,7 @@ all-at (r ∷ rs) (z ∷ vs) e zero h = both (inRow r z) (allIn rs vs) e .0
 all-at (r ∷ rs) (z ∷ vs) e (suc i) h = all-at rs vs (both (inRow r z) (allIn rs vs) e .1) i (omega arith)
 
 -- and of the values from a place on
-all-from : (n : ℕ) (rs : List Row) (vs : List ℤ) → allIn rs vs ≡ true → allIn (drop n rs) (drop n vs) ≡ true
+pub all-from : (n : ℕ) (rs : List Row) (vs : List ℤ) → allIn rs vs ≡ true → allIn (drop n rs) (drop n vs) ≡ true
 all-from zero rs vs e = e
 all-from (suc n) [] vs e = refl
 all-from (suc n) (r ∷ rs) [] e = never e

@@ -25,7 +25,7 @@ use Rattle.settings.proofs.Lists.{each-at, each-long, each-append, numb
 
 -- ---- rows
 
-pub rows-long : (n : ℕ) → length (rowsOf n) ≡ linesFor n
+pub rows-long : (n : ℕ) → length (rowsOf n) ≡ linesFor heads n
 unfolding rowsOf
 rows-long n =
     let h = each-long keys setRows (numbersFrom 0 n) (λ _. refl) in

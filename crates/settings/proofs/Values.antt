@@ -34,7 +34,7 @@ sets-values (suc n) i vs e =
     let g : gainValues (gainsFrom i vs) ≡ listed (pos 0) keys i vs = simp unary-clauses in
     ap₂ (λ (xs ys : List ℤ). xs ++ ys) g (sets-values n (i + keys) vs (omega arith)) ∙ listed-all (pos 0) keys i vs (omega arith)
 
-pub values-front : (n : ℕ) (vs : List ℤ) → length vs ≡ linesFor n → headValues (settingsOf vs) ++ each gainValues (setsFrom heads n vs) ≡ vs
+pub values-front : (n : ℕ) (vs : List ℤ) → length vs ≡ linesFor heads n → headValues (settingsOf vs) ++ each gainValues (setsFrom heads n vs) ≡ vs
 values-front n vs e =
     ap (λ (xs : List ℤ). headValues (settingsOf vs) ++ xs) (sets-values n heads vs e) ∙ listed-all (pos 0) heads 0 vs (omega arith)
 
@@ -96,7 +96,7 @@ take-sets (suc n) zero i vs h = absurd (omega arith)
 take-sets (suc n) (suc m) i vs h = ap (λ (gs : List Gains). gainsFrom i vs ∷ gs) (take-sets n m (i + keys) vs (omega arith))
 
 -- the values that were there stay at the front
-pub values-filled : (n : ℕ) (vs : List ℤ) → n ≤ sets → length vs ≡ linesFor n →
+pub values-filled : (n : ℕ) (vs : List ℤ) → n ≤ sets → length vs ≡ linesFor heads n →
     valuesOf (filled n (settingsOf vs)) ≡ vs ++ each gainValues (replicate (sets - n) (gainsFrom heads vs))
 values-filled n vs m e =
     let s = settingsOf vs in
@@ -118,10 +118,10 @@ sets-first zero i m vs h = refl
 sets-first (suc n) i m vs h =
     ap₂ (λ (g : Gains) (gs : List Gains). g ∷ gs) (gains-first i m vs (omega arith)) (sets-first n (i + keys) m vs (omega arith))
 
-pub filled-first : (n : ℕ) (vs : List ℤ) → 1 ≤ n → n ≤ sets → filled n (settingsOf (take (linesFor n) vs)) ≡ filled n (settingsOf vs)
+pub filled-first : (n : ℕ) (vs : List ℤ) → 1 ≤ n → n ≤ sets → filled n (settingsOf (take (linesFor heads n) vs)) ≡ filled n (settingsOf vs)
 filled-first n vs l h =
-    let ws = take (linesFor n) vs in
-    let at : (j : ℕ) → j < heads → getD ws j (pos 0) ≡ getD vs j (pos 0) = λ j k. getD-take (linesFor n) vs j (pos 0) (omega arith) in
-    let t = take-sets n sets heads ws h ∙ sets-first n heads (linesFor n) vs (omega arith) ∙ sym (take-sets n sets heads vs h) in
-    let g = gains-first heads (linesFor n) vs (omega arith) in
+    let ws = take (linesFor heads n) vs in
+    let at : (j : ℕ) → j < heads → getD ws j (pos 0) ≡ getD vs j (pos 0) = λ j k. getD-take (linesFor heads n) vs j (pos 0) (omega arith) in
+    let t = take-sets n sets heads ws h ∙ sets-first n heads (linesFor heads n) vs (omega arith) ∙ sym (take-sets n sets heads vs h) in
+    let g = gains-first heads (linesFor heads n) vs (omega arith) in
     rw (t, g, at 0 (omega arith), at 1 (omega arith), at 2 (omega arith), at 3 (omega arith), at 4 (omega arith), at 5 (omega arith), at 6 (omega arith))

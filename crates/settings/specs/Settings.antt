@@ -1,15 +1,15 @@
--- 01, "Units" and "Settings text", with 02's request 5: the settings as values in the order of the rows, and what is wrong with them.
+-- 01, "Units" and "Settings text", with 02's requests 5 and 7: the settings as values in the order of the rows, and what is wrong with them.
 use Prim.Native.Nat.{ℕ, zero, suc, _+_, _-_}
 use mathlib.Core.Bool.{Bool, true, false, cond, _&&_}
 use mathlib.Core.List.{List, [], _∷_, _++_}
-use lib.ListN.{getD, take, replicate}
+use lib.ListN.{getD, take, drop, replicate}
 use lib.IntN.{ℤ, pos}
 use lib.Signed.{ltZ}
 use Rattle.whole.specs.Numbers.{inside}
 use Rattle.settings.specs.declared.table.Row.{Row}
 use Rattle.settings.specs.declared.Gains.{Gains}
 use Rattle.settings.specs.declared.Settings.{Settings}
-use Rattle.settings.specs.Table.{sets, heads, keys, lines, each, rows, inRow}
+use Rattle.settings.specs.Table.{sets, firsts, heads, keys, linesFor, lines, each, rows, inRow}
 
 -- ---- the values in the order of the rows
 
@@ -72,6 +72,18 @@ filled n s = record {
   mean = s .mean;
   gains = take n (s .gains) ++ replicate (sets - n) (gainsAt (s .gains) 0);
 }
+
+-- the values of the rows that a text may leave out, where it does: it "is read as mean 1"
+abbrev pub absent : List ℤ
+absent = pos 1 ∷ []
+
+-- the values of all rows, from those of the rows that have a line, of which h stand before the gain sets
+abbrev pub completed : ℕ → List ℤ → List ℤ
+completed h vs = take h vs ++ (drop (h - firsts) absent ++ drop h vs)
+
+-- values before any line is read
+abbrev pub unread : List ℤ
+unread = completed firsts (replicate (linesFor firsts sets) (pos 0))
 
 -- "the blank: every number zero"
 unfoldable pub blankSettings : Settings

@@ -1,9 +1,10 @@
--- 01, "Units" and "Settings text", with 02's request 5: the settings' keys, their order and their ranges.
+-- 01, "Units" and "Settings text", with 02's requests 5 and 7: the settings' keys, their order and their ranges.
 use Prim.Native.Nat.{ℕ, zero, suc, _+_, _-_, _*_}
 use Prim.Native.String.{String}
-use mathlib.Core.Bool.{Bool}
+use mathlib.Core.Bool.{Bool, cond}
 use mathlib.Core.List.{List, [], _∷_, _++_, map}
-use lib.ListN.{length, replicate}
+use lib.Dec.{ltb}
+use lib.ListN.{length, take, drop, replicate}
 use lib.Seq.{sets as puts}
 use lib.IntN.{ℤ, pos, negℤ}
 use Rattle.whole.specs.Numbers.{inside}
@@ -97,24 +98,23 @@ shortSets = 4
 
 -- ---- the rows of the text's lines
 
--- how many stand before those of the gain sets, and how many in each set
+-- how many stand before those of the gain sets, of which every text has the first, and how many in each set
+abbrev pub firsts : ℕ
+firsts = length firstRows
+
 abbrev pub heads : ℕ
 heads = length headRows
 
 abbrev pub keys : ℕ
 keys = length gainRows
 
--- how many there are with n gain sets
-abbrev pub linesFor : ℕ → ℕ
-linesFor n = heads + keys * n
+-- how many lines there are with h rows before the gain sets, and n gain sets
+abbrev pub linesFor : ℕ → ℕ → ℕ
+linesFor h n = h + keys * n
 
--- "the text has 86 lines"
+-- "the text has 86 lines", and with the mean one more
 abbrev pub lines : ℕ
-lines = linesFor sets
-
--- "a text that ends after 26 lines"
-abbrev pub shortLines : ℕ
-shortLines = linesFor shortSets
+lines = linesFor heads sets
 
 -- the row in gain set k: the set's number and `=` are put after its letters
 abbrev pub numbered : Row → ℕ → Row
@@ -139,12 +139,20 @@ abbrev pub numbersFrom : ℕ → ℕ → List ℕ
 numbersFrom k zero = []
 numbersFrom k (suc n) = k ∷ numbersFrom (k + 1) n
 
--- "action, lo, hi, out, sp, rate, then kp0 ki0 kd0 alpha0 kt0, then the same for sets 1, 2 and 3", and on: with n gain sets
+-- "action, lo, hi, out, sp, rate", mean, "then kp0 ki0 kd0 alpha0 kt0, then the same for sets 1, 2 and 3", and on: with n gain sets
 unfoldable pub rowsOf : ℕ → List Row
 rowsOf n = headRows ++ each setRows (numbersFrom 0 n)
 
 abbrev pub rows : List Row
 rows = rowsOf sets
+
+-- of a list that has an element for each row, those whose rows have a line: of the rows before the gain sets, the first h
+abbrev pub picked : {A : Type 0} → ℕ → List A → List A
+picked h xs = take h xs ++ drop heads xs
+
+-- the place of line i among all rows, lines and rows counted from 0
+abbrev pub placeOf : ℕ → ℕ → ℕ
+placeOf h i = cond (ltb i h) i (i + (heads - h))
 
 -- ---- a value within its range
 

@@ -4,7 +4,7 @@ ghost use Prim.Native.Nat.{_+_, _<_, _≤_};
 ghost use lib.IntN.{pos};
 ghost use lib.ListN.{getD};
 ghost use Rattle.settings.specs.Table.{heads, keys, sets, lines};
-ghost use Rattle.settings.specs.Settings.{noGains, gainValues, gainsFrom, setsFrom, headValues, valuesOf, settingsOf, filled, blankSettings, ordered, settingsRefusal};
+ghost use Rattle.settings.specs.Settings.{noGains, gainValues, gainsFrom, setsFrom, headValues, valuesOf, settingsOf, unread, filled, blankSettings, ordered, settingsRefusal};
 
 pub mod table;
 
@@ -47,13 +47,16 @@ impl Settings {
     // "Raise four to sixteen": gain sets 0 to 15.
     pub const SETS: usize = 16;
 
-    // How many keys stand before those of the gain sets: action, lo, hi, out, sp, rate, mean.
-    pub const HEAD: usize = 7;
+    // How many keys every text has before those of the gain sets: action, lo, hi, out, sp, rate.
+    pub const FIRST: usize = 6;
+
+    // How many stand before those of the gain sets, with mean.
+    pub const HEAD: usize = Settings::FIRST + 1;
 
     // How many stand in each gain set: kp, ki, kd, alpha, kt.
     pub const KEYS: usize = 5;
 
-    // The lines of a settings text, and so the values of settings.
+    // The lines of a settings text that leaves none out, and so the values of settings.
     pub const LINES: usize = Settings::HEAD + Settings::KEYS * Settings::SETS;
 }
 
@@ -112,7 +115,7 @@ impl Settings {
         all[i]
     }
 
-    // The value of line i of the text, counted from 0; 0 past the last.
+    // The value of line i of such a text, counted from 0; 0 past the last.
     pub fn value(self, i: usize) -> i32
         ensures { λ r. ⌜ r ≡ getD (valuesOf self) i (pos 0) ⌝ }
     {
@@ -155,6 +158,15 @@ impl Settings {
             mean: values[6],
             gains,
         }
+    }
+
+    // Values before any line of a text is read: a text without the line mean "is read as mean 1".
+    pub fn unread() -> [i32; Settings::LINES]
+        ensures { λ r. ⌜ r ≡ unread ⌝ }
+    {
+        let mut values = [0i32; Settings::LINES];
+        values[Settings::FIRST] = 1;
+        values
     }
 
     // The settings with set 0 in the place of each set from n on.

@@ -53,7 +53,7 @@ impl Row {
         Row(key, end + 1, self.2, self.3)
     }
 
-    // The row of line i of the text, counted from 0; past the last, a row without a key.
+    // The row of line i of a text that leaves none out, counted from 0; past the last, a row without a key.
     pub fn at(i: usize) -> Row
         ensures { λ r. ⌜ r ≡ getD rows i noRow ⌝ }
     {

@@ -1,248 +1,437 @@
--- The text in its two forms, of 86 lines and of 26: settings written are read back the same, a text read is written back, and
--- where and how every other text is refused.
-use Prim.Native.Nat.{ℕ, suc, _+_, _-_, _<_, _≤_}
+-- The text in its forms: settings written are read back the same, a text read is written back, and where and how every other
+-- text is refused.
+use Prim.Native.Nat.{ℕ, _+_, _-_, _*_, _<_, _≤_}
 use mathlib.Core.Path.{_≡_, refl, sym, ap, ap₂, subst, _∙_}
 use mathlib.Core.Bool.{true, false}
-use mathlib.Core.List.{List, [], _∷_, _++_, append-assoc, append-nil}
-use mathlib.Core.Logic.{_⊎_, inl, inr}
+use mathlib.Core.List.{List, [], _∷_, _++_, append-nil}
 use native.Mathlib.Omega.{arith}
-use borrow.Author.Tests.{ltb-true, ltb-false, eqb-true, eqb-false}
+use borrow.Author.Tests.{lt-ltb, ltb-true, ltb-false, eqb-true, eqb-false}
 use lib.Dec.{ltb, eqb}
-use lib.IntN.{ℤ}
-use lib.ListN.{length, getD, take, drop, length-append, length-drop, take-append-drop}
-use lib.Seq.{take-append-le, length-take-le, take-all}
+use lib.IntN.{ℤ, pos}
+use lib.ListN.{length, getD, take, drop, replicate, length-append, length-drop, take-append-drop, drop-of-length-le}
+use lib.Seq.{take-append-le, length-take-le, take-all, take-take, take-at, drop-append-le, drop-drop, getD-take}
+use Rattle.whole.specs.Words.{bytes}
 use Rattle.whole.proofs.Truth.{by-test}
+use Rattle.whole.proofs.Lists.{next}
 use Rattle.settings.specs.declared.table.Row.{Row}
 use Rattle.settings.specs.declared.Settings.{Settings}
-use Rattle.settings.specs.Table.{sets, shortSets, linesFor, shortLines, lines, rowsOf, rows, noRow}
-use Rattle.settings.specs.Settings.{gainsAt, allIn, inTable, settingsRefusal, valuesOf, settingsOf, filled}
-use Rattle.settings.proofs.Lists.{all-take}
+use Rattle.settings.specs.Table.{laterRows, each, firsts, heads, keys, sets, shortSets, linesFor, rowsOf, rows, picked, noRow}
+use Rattle.settings.specs.Settings.{gainsAt, gainsFrom, gainValues, allIn, inTable, settingsRefusal, valuesOf, settingsOf, absent, completed, filled}
+use Rattle.settings.proofs.Lists.{all, all-take}
 use Rattle.settings.proofs.Rows.{rows-long, rows-parts, values-long}
-use Rattle.settings.proofs.Values.{values-filled, settings-values, filled-first, filled-all, filled-long, filled-at, filled-twice}
+use Rattle.settings.proofs.Values.{values-filled, settings-values, filled-all, filled-long, filled-at, filled-twice}
 use Rattle.settings.proofs.Ranges.{rows-front, filled-in}
+use Rattle.settings.proofs.Forms.{picked-long, take-picked, drop-picked, picked-append, completed-long, completed-append, completed-in, picked-completed, picked-in, filled-picked}
+use Rattle.word.specs.Decimal.{shown}
+use Rattle.word.specs.End.{begins}
 use Rattle.text.specs.declared.reader.Reading.{Reading}
-use Rattle.text.specs.Lines.{linesOf, textFor, textOf, longestText}
-use Rattle.text.specs.Reader.{ended, lineCode, afterLines, refused, readEnd, readFrom, setsIn, readText}
-use Rattle.text.proofs.Rows.{lined, rows-lined, rows-next, row-of}
-use Rattle.text.proofs.Writes.{sound, sound-long, sound-short}
-use Rattle.text.proofs.Texts.{goes-on, ends-short, sets-some, end-yes, end-taken, lines-done, line-refused}
-use Rattle.text.proofs.Trip.{lines-read, lines-after, valuesIn, lines-back, valued, lines-both, lines-front, all-start, front-in, lines-some}
+use Rattle.text.specs.Lines.{linesOf, Headed, with-mean, no-mean, Gained, full, short, textFor, textOf, longestFor, longestText}
+use Rattle.text.specs.Reader.{ended, lineCode, afterLines, refused, readEnd, readFrom, headsIn, setsIn, readText}
+use Rattle.text.proofs.Rows.{lined, form-long, form-lined, form-next, form-parts, form-at, row-at, text-whole, headed, gained}
+use Rattle.text.proofs.Writes.{sound, sound-long}
+use Rattle.text.proofs.Texts.{mean-absent, mean-there, heads-in, goes-on, ends-short, sets-in, read-with, end-yes, end-taken, lines-done, line-refused}
+use Rattle.text.proofs.Trip.{lines-read, lines-past, valuesIn, lines-back, valued, lines-split, lines-front, front-in, lines-some}
 
 -- ---- the first lines of a text
 
 -- the first j rows are the same with k gain sets as with all
-rows-take : (k j : ℕ) → k ≤ sets → j ≤ linesFor k → take j (rowsOf k) ≡ take j rows
-rows-take k j m h = sym (ap (take j) (rows-parts k m) ∙ take-append-le j (rowsOf k) _ (omega (arith, rows-long k)))
+rows-take : (h k j : ℕ) → h ≤ heads → k ≤ sets → j ≤ linesFor h k → take j (picked h (rowsOf k)) ≡ take j (picked h rows)
+rows-take h k j a m l =
+    sym (ap (take j) (form-parts h k a m) ∙ take-append-le j (picked h (rowsOf k)) _ (omega (arith, form-long h k a)))
+
+-- and those that every text has are the same in every text
+rows-first : (h j : ℕ) → h ≤ heads → j ≤ h → take j (picked h rows) ≡ take j rows
+rows-first h j m l =
+    let n = length-take-le h rows (omega (arith, rows-long sets)) in
+    take-append-le j (take h rows) (drop heads rows) (omega arith) ∙ take-take j h rows l
+
+row-first : (h j : ℕ) → h ≤ heads → j < h → getD (picked h rows) j noRow ≡ getD rows j noRow
+row-first h j m l = row-at h j m ∙ rw (lt-ltb j h l)
+
+-- the line after those begins with `kp0` where there is no mean
+next-line : (h : ℕ) → Headed h → (rs : List Row) (z : ℤ) (vs : List ℤ) (s : List ℕ) →
+    begins (bytes "kp0") (linesOf (getD (picked h rows) firsts noRow ∷ rs) (z ∷ vs) ++ s) ≡ eqb h firsts
+unfolding rowsOf shown
+next-line h with-mean rs z vs s = refl
+next-line h no-mean rs z vs s = refl
+
+heads-said : (h : ℕ) (text : List ℕ) → Headed h → begins (bytes "kp0") (afterLines firsts text) ≡ eqb h firsts → headsIn text ≡ h
+heads-said h text with-mean e = mean-there text e
+heads-said h text no-mean e = mean-absent text e
 
 -- right lines of the first j rows, with what follows
-module _ (j : ℕ) (vs : List ℤ) (s : List ℕ) (h : j ≤ lines) (e : length vs ≡ j) (i : allIn (take j rows) vs ≡ true) where
-  front-long : length (take j rows) ≡ j
-  front-long = length-take-le j rows (omega (arith, rows-long sets))
+module _ (h j : ℕ) (vs : List ℤ) (s : List ℕ) (a : Headed h) (l : j ≤ linesFor h sets) (e : length vs ≡ j) (i : allIn (take j (picked h rows)) vs ≡ true) where
+  front-long : length (take j (picked h rows)) ≡ j
+  front-long = length-take-le j (picked h rows) (omega (arith, form-long h sets (headed h a .1)))
+
+  front-lined : all lined (take j (picked h rows)) ≡ true
+  front-lined = all-take lined (picked h rows) j (form-lined h sets (headed h a .1) (omega arith))
 
   -- they are read as what is left, from line j + 1 on
-  first-lines : (k : ℕ) → k ≤ sets → j ≤ linesFor k →
-      readFrom k (rowsOf k) 1 [] (linesOf (take j rows) vs ++ s) ≡ readFrom k (drop j (rowsOf k)) (j + 1) vs s
-  first-lines k m l =
-      let n : 1 + length (take j rows) ≡ j + 1 = omega (arith, front-long) in
-      ap (λ (rs : List Row). readFrom k rs 1 [] (linesOf (take j rows) vs ++ s))
-      (sym (take-append-drop j (rowsOf k)) ∙ ap (λ (rs : List Row). rs ++ drop j (rowsOf k)) (rows-take k j m l))
-      ∙ lines-read k (take j rows) (drop j (rowsOf k)) 1 [] vs s (all-take lined rows j (rows-lined sets (omega arith))) i (e ∙ sym front-long)
-      ∙ ap (λ (x : ℕ). readFrom k (drop j (rowsOf k)) x vs s) n
+  first-lines : (k : ℕ) → k ≤ sets → j ≤ linesFor h k →
+      readFrom h k (picked h (rowsOf k)) 1 [] (linesOf (take j (picked h rows)) vs ++ s) ≡ readFrom h k (drop j (picked h (rowsOf k))) (j + 1) vs s
+  first-lines k m b =
+      let rs = take j (picked h rows) in
+      let more = drop j (picked h (rowsOf k)) in
+      let n : 1 + length rs ≡ j + 1 = omega (arith, front-long) in
+      ap (λ (qs : List Row). readFrom h k qs 1 [] (linesOf rs vs ++ s))
+      (sym (take-append-drop j (picked h (rowsOf k))) ∙ ap (λ (qs : List Row). qs ++ more) (rows-take h k j (headed h a .1) m b))
+      ∙ lines-read h k rs more 1 [] vs s front-lined i (e ∙ sym front-long)
+      ∙ ap (λ (x : ℕ). readFrom h k more x vs s) n
 
-  -- where bytes stand after line 26, the text has the lines of all gain sets
-  on-after : shortLines ≤ j → 0 < j - shortLines + length s → setsIn (linesOf (take j rows) vs ++ s) ≡ sets
-  on-after l some =
-      let rs = take shortLines (take j rows) in
-      let qs = drop shortLines (take j rows) in
-      let us = take shortLines vs in
-      let ws = drop shortLines vs in
-      let n : length rs ≡ shortLines = length-take-le shortLines (take j rows) (omega (arith, front-long)) in
-      let m : length us ≡ shortLines = length-take-le shortLines vs (omega arith) in
-      let p : length ws ≡ length qs = simp length-drop (omega (arith, front-long)) in
-      let q : length qs ≡ j - shortLines = simp length-drop (omega (arith, front-long)) in
-      let w : allIn rs us ≡ true = all-start rs qs us ws (m ∙ sym n) (ap₂ allIn (take-append-drop shortLines (take j rows)) (take-append-drop shortLines vs) ∙ i) in
-      let t : linesOf (take j rows) vs ++ s ≡ linesOf rs us ++ (linesOf qs ws ++ s) =
-      ap (λ (x : List ℕ). x ++ s) (sym (ap₂ linesOf (take-append-drop shortLines (take j rows)) (take-append-drop shortLines vs)) ∙ lines-both rs qs us ws (m ∙ sym n))
-      ∙ append-assoc (linesOf rs us) (linesOf qs ws) s in
-      let a : afterLines shortLines (linesOf (take j rows) vs ++ s) ≡ linesOf qs ws ++ s =
-      ap (afterLines shortLines) t
-      ∙ ap (λ (x : ℕ). afterLines x (linesOf rs us ++ (linesOf qs ws ++ s))) (sym n)
-      ∙ lines-after rs us (linesOf qs ws ++ s) (all-take lined (take j rows) shortLines (all-take lined rows j (rows-lined sets (omega arith)))) w (m ∙ sym n) in
-      let b : 0 < length (linesOf qs ws ++ s) = simp length-append (omega (arith, lines-some qs ws p, q)) in
-      goes-on (linesOf (take j rows) vs ++ s) (rw a b)
+  -- what stands after n of them
+  past : (n : ℕ) → n ≤ j → afterLines n (linesOf (take j (picked h rows)) vs ++ s) ≡ linesOf (drop n (take j (picked h rows))) (drop n vs) ++ s
+  past n b = lines-past n (take j (picked h rows)) vs s front-lined i (omega (arith, front-long))
 
--- ---- the text
+  -- where bytes stand after the last line of set 3, the text has the lines of all gain sets
+  on-after : linesFor h shortSets ≤ j → 0 < j - linesFor h shortSets + length s → setsIn h (linesOf (take j (picked h rows)) vs ++ s) ≡ sets
+  on-after b some =
+      let m = linesFor h shortSets in
+      let qs = drop m (take j (picked h rows)) in
+      let p : length (drop m vs) ≡ length qs = simp length-drop (omega (arith, front-long)) in
+      let q : length qs ≡ j - m = simp length-drop (omega (arith, front-long)) in
+      let n : 0 < length (linesOf qs (drop m vs) ++ s) = simp length-append (omega (arith, lines-some qs (drop m vs) p, q)) in
+      goes-on h (linesOf (take j (picked h rows)) vs ++ s) (rw (past m b) n)
 
-read-with : (k : ℕ) (text : List ℕ) → setsIn text ≡ k → readText text ≡ readFrom k (rowsOf k) 1 [] text
-unfolding readText
-read-with k text e = ap (λ (x : ℕ). readFrom x (rowsOf x) 1 [] text) e
+  -- the line after rate tells whether there is a mean
+  heads-after : firsts ≤ j → (j ≡ firsts → begins (bytes "kp0") s ≡ eqb h firsts) → headsIn (linesOf (take j (picked h rows)) vs ++ s) ≡ h
+  heads-after b f = heads-said h (linesOf (take j (picked h rows)) vs ++ s) a (ap (begins (bytes "kp0")) (past firsts b) ∙ by-test (eqb j firsts) here there)
+    where
+      here : eqb j firsts ≡ true → begins (bytes "kp0") (linesOf (drop firsts (take j (picked h rows))) (drop firsts vs) ++ s) ≡ eqb h firsts
+      here t =
+          let p = eqb-true j firsts t in
+          let q : drop firsts (take j (picked h rows)) ≡ [] = drop-of-length-le (take j (picked h rows)) {i = firsts} (omega (arith, front-long)) in
+          ap (λ (qs : List Row). begins (bytes "kp0") (linesOf qs (drop firsts vs) ++ s)) q ∙ f p
 
--- lines that are right up to line j, and then one that is not: the text is refused there. After line 26 it may end
-pub first-wrong : (j : ℕ) (vs : List ℤ) (s : List ℕ) → j < lines → length vs ≡ j → allIn (take j rows) vs ≡ true → (j ≡ shortLines → 0 < length s) →
-    let r = getD rows j noRow in
-    (lineCode r s ≡ 0 → ⊥) → readText (linesOf (take j rows) vs ++ s) ≡ refused (lineCode r s) (j + 1)
-first-wrong j vs s h e i more f =
-    let text = linesOf (take j rows) vs ++ s in
-    let k = setsIn text in
-    let m = sets-some text .1 in
-    let l : j < linesFor k = in-form k refl in
-    let q = row-of k j m l in
-    read-with k text refl
-    ∙ first-lines j vs s (omega arith) e i k m (omega arith)
-    ∙ ap (λ (rs : List Row). readFrom k rs (j + 1) vs s) (rows-next k j l)
-    ∙ line-refused k (j + 1) vs s (getD (rowsOf k) j noRow) (drop (j + 1) (rowsOf k)) (λ z. f (ap (λ (r : Row). lineCode r s) (sym q) ∙ z))
-    ∙ ap (λ (r : Row). refused (lineCode r s) (j + 1)) q
+      there : eqb j firsts ≡ false → begins (bytes "kp0") (linesOf (drop firsts (take j (picked h rows))) (drop firsts vs) ++ s) ≡ eqb h firsts
+      there t =
+          let p = eqb-false j firsts t in
+          let n = next (take j (picked h rows)) firsts noRow (omega (arith, front-long)) in
+          let r = getD-take j (picked h rows) firsts noRow (omega arith) in
+          let v = next vs firsts (pos 0) (omega arith) in
+          let more = drop (firsts + 1) (take j (picked h rows)) in
+          ap₂ (λ (qs : List Row) (ws : List ℤ). begins (bytes "kp0") (linesOf qs ws ++ s)) (n ∙ ap (λ (x : Row). x ∷ more) r) v
+          ∙ next-line h a more (getD vs firsts (pos 0)) (drop (firsts + 1) vs) s
+
+  -- ---- a line that is not right: the text is refused there
+
+  -- after the last line of set 3 it may end
+  wrong-line : headsIn (linesOf (take j (picked h rows)) vs ++ s) ≡ h → j < linesFor h sets → (j ≡ linesFor h shortSets → 0 < length s) →
+      let r = getD (picked h rows) j noRow in
+      (lineCode r s ≡ 0 → ⊥) → readText (linesOf (take j (picked h rows)) vs ++ s) ≡ refused (lineCode r s) (j + 1)
+  wrong-line d b more f =
+      let text = linesOf (take j (picked h rows)) vs ++ s in
+      let k = setsIn h text in
+      let m = gained k (sets-in h text) in
+      let n = headed h a .1 in
+      let c : j < linesFor h k = in-form k refl in
+      let q = form-at h k n j (m .1) c in
+      read-with h k text d refl
+      ∙ first-lines k (m .1) (omega arith)
+      ∙ ap (λ (rs : List Row). readFrom h k rs (j + 1) vs s) (form-next h k n j c)
+      ∙ line-refused h k (j + 1) vs s (getD (picked h (rowsOf k)) j noRow) (drop (j + 1) (picked h (rowsOf k))) (λ z. f (ap (λ (r : Row). lineCode r s) (sym q) ∙ z))
+      ∙ ap (λ (r : Row). refused (lineCode r s) (j + 1)) q
+    where
+      some : linesFor h shortSets ≤ j → 0 < j - linesFor h shortSets + length s
+      some c = by-test (eqb j (linesFor h shortSets))
+          (λ t. omega (arith, more (eqb-true j (linesFor h shortSets) t)))
+          (λ t. omega (arith, c, eqb-false j (linesFor h shortSets) t))
+
+      -- however many gain sets the text has, it has line j + 1
+      in-form : (k : ℕ) → setsIn h (linesOf (take j (picked h rows)) vs ++ s) ≡ k → j < linesFor h k
+      in-form k g = by-test (ltb j (linesFor h shortSets))
+          (λ t. omega (arith, ltb-true j (linesFor h shortSets) t, g, gained _ (sets-in h (linesOf (take j (picked h rows)) vs ++ s)) .0))
+          (λ t. let c = ltb-false j (linesFor h shortSets) t in omega (arith, g, on-after c (some c)))
+
+-- line 7 is that of the gain sets where it begins with `kp0`, else that of mean; the lines before it are the same in every text
+pub first-wrong : (h j : ℕ) (vs : List ℤ) (s : List ℕ) → Headed h → j < linesFor h sets → length vs ≡ j → allIn (take j (picked h rows)) vs ≡ true →
+    (j ≡ firsts → begins (bytes "kp0") s ≡ eqb h firsts) → (j ≡ linesFor h shortSets → 0 < length s) →
+    let r = getD (picked h rows) j noRow in
+    (lineCode r s ≡ 0 → ⊥) → readText (linesOf (take j (picked h rows)) vs ++ s) ≡ refused (lineCode r s) (j + 1)
+first-wrong h j vs s a l e i mean more f = by-test (ltb j firsts) early late
   where
-    some : shortLines ≤ j → 0 < j - shortLines + length s
-    some l = by-test (eqb j shortLines) (λ t. omega (arith, more (eqb-true j shortLines t))) (λ t. omega (arith, l, eqb-false j shortLines t))
+    late : ltb j firsts ≡ false → readText (linesOf (take j (picked h rows)) vs ++ s) ≡ refused (lineCode (getD (picked h rows) j noRow) s) (j + 1)
+    late t = wrong-line h j vs s a (omega arith) e i (heads-after h j vs s a (omega arith) e i (ltb-false j firsts t) mean) l more f
 
-    -- whichever form the text has, it has line j + 1
-    in-form : (k : ℕ) → setsIn (linesOf (take j rows) vs ++ s) ≡ k → j < linesFor k
-    in-form k g = by-test (ltb j shortLines)
-        (λ t. omega (arith, ltb-true j shortLines t, g, sets-some (linesOf (take j rows) vs ++ s) .0))
-        (λ t. let l = ltb-false j shortLines t in omega (arith, g, on-after j vs s (omega arith) e i l (some l)))
+    early : ltb j firsts ≡ true → readText (linesOf (take j (picked h rows)) vs ++ s) ≡ refused (lineCode (getD (picked h rows) j noRow) s) (j + 1)
+    early t =
+        let b = ltb-true j firsts t in
+        let text = linesOf (take j (picked h rows)) vs ++ s in
+        let d = headsIn text in
+        let c = heads-in text in
+        let n = headed h a in
+        let m = headed d c in
+        let p : take j (picked h rows) ≡ take j (picked d rows) = rows-first h j (n .1) (omega arith) ∙ sym (rows-first d j (m .1) (omega arith)) in
+        let q : getD (picked d rows) j noRow ≡ getD (picked h rows) j noRow = row-first d j (m .1) (omega arith) ∙ sym (row-first h j (n .1) (omega arith)) in
+        let w = ap (λ (rs : List Row). linesOf rs vs ++ s) p in
+        ap readText w
+        ∙ wrong-line d j vs s c (omega arith) e (ap (λ (rs : List Row). allIn rs vs) (sym p) ∙ i) (ap headsIn (sym w)) (omega arith) (λ z. absurd (omega arith))
+        (λ z. f (ap (λ (r : Row). lineCode r s) (sym q) ∙ z))
+        ∙ ap (λ (r : Row). refused (lineCode r s) (j + 1)) q
 
 -- "Text that stops early is 14 at the line where it stops"
-pub text-stops : (j : ℕ) (vs : List ℤ) → j < lines → (j ≡ shortLines → ⊥) → length vs ≡ j → allIn (take j rows) vs ≡ true →
-    readText (linesOf (take j rows) vs) ≡ refused 14 (j + 1)
+pub text-stops : (h j : ℕ) (vs : List ℤ) → Headed h → j < linesFor h sets → (j ≡ linesFor h shortSets → ⊥) → length vs ≡ j → allIn (take j (picked h rows)) vs ≡ true →
+    readText (linesOf (take j (picked h rows)) vs) ≡ refused 14 (j + 1)
 unfolding lineCode ended
-text-stops j vs h f e i =
-    ap readText (sym (append-nil (linesOf (take j rows) vs)))
-    ∙ first-wrong j vs [] h e i (λ z. absurd (f z)) (λ z. omega arith)
+text-stops h j vs a l f e i = by-test (eqb j firsts)
+    (λ t. let b = eqb-true j firsts t in
+    let n = headed h a in
+    let p : take j (picked h rows) ≡ take j (picked heads rows) = rows-first h j (n .1) (omega arith) ∙ sym (rows-first heads j (omega arith) (omega arith)) in
+    ap (λ (rs : List Row). readText (linesOf rs vs)) p
+    ∙ ap readText (sym (append-nil (linesOf (take j (picked heads rows)) vs)))
+    ∙ first-wrong heads j vs [] with-mean (omega arith) e (ap (λ (rs : List Row). allIn rs vs) (sym p) ∙ i) (λ _. refl) (λ z. absurd (omega arith)) (λ z. omega arith))
+    (λ t. ap readText (sym (append-nil (linesOf (take j (picked h rows)) vs)))
+    ∙ first-wrong h j vs [] a l e i (λ z. absurd (eqb-false j firsts t z)) (λ z. absurd (f z)) (λ z. omega arith))
 
--- all lines right: what is left decides
-pub all-right : (vs : List ℤ) (s : List ℕ) → length vs ≡ lines → allIn rows vs ≡ true →
-    readText (linesOf rows vs ++ s) ≡ readEnd (settingsOf vs) (length s)
-all-right vs s e i =
-    let p : take lines rows ≡ rows = take-all lines rows (omega (arith, rows-long sets)) in
-    let w : allIn (take lines rows) vs ≡ true = ap (λ (rs : List Row). allIn rs vs) p ∙ i in
-    let text = linesOf (take lines rows) vs ++ s in
+-- ---- all lines right: what is left decides
+
+-- with four gain sets nothing may be left
+pub all-right : (h n : ℕ) (vs : List ℤ) (s : List ℕ) → Headed h → Gained n → (n ≡ shortSets → s ≡ []) → length vs ≡ linesFor h n → allIn (picked h (rowsOf n)) vs ≡ true →
+    readText (linesOf (picked h (rowsOf n)) vs ++ s) ≡ readEnd (filled n (settingsOf (completed h vs))) (length s)
+all-right h n vs s a b none e i =
+    let j = linesFor h n in
+    let m = headed h a .1 in
+    let k = gained n b in
+    let l : linesFor h n ≤ linesFor h sets = omega arith in
+    let p : take j (picked h rows) ≡ picked h (rowsOf n) = sym (rows-take h n j m (k .1) (omega arith)) ∙ take-all j (picked h (rowsOf n)) (omega (arith, form-long h n m)) in
+    let w : allIn (take j (picked h rows)) vs ≡ true = ap (λ (rs : List Row). allIn rs vs) p ∙ i in
+    let text = linesOf (take j (picked h rows)) vs ++ s in
     ap (λ (rs : List Row). readText (linesOf rs vs ++ s)) (sym p)
-    ∙ read-with sets text (on-after lines vs s (omega arith) e w (omega arith) (omega arith))
-    ∙ first-lines lines vs s (omega arith) e w sets (omega arith) (omega arith)
-    ∙ lines-done sets (lines + 1) vs s lines (omega arith)
-    ∙ ap (λ (x : Settings). readEnd x (length s)) (filled-all (settingsOf vs) refl)
-
--- 26 lines right, and nothing after them
-pub short-right : (vs : List ℤ) → length vs ≡ shortLines → allIn (rowsOf shortSets) vs ≡ true →
-    readText (linesOf (rowsOf shortSets) vs) ≡ readEnd (filled shortSets (settingsOf vs)) 0
-short-right vs e i =
-    let rs = rowsOf shortSets in
-    let n = rows-long shortSets in
-    let l = rows-lined shortSets (omega arith) in
-    let a : afterLines shortLines (linesOf rs vs) ≡ [] =
-    ap₂ afterLines (sym n) (sym (append-nil (linesOf rs vs))) ∙ lines-after rs vs [] l i (e ∙ sym n) in
-    read-with shortSets (linesOf rs vs) (ends-short (linesOf rs vs) (omega (arith, ap length a)))
-    ∙ sym (ap₂ (λ (qs : List Row) (x : List ℕ). readFrom shortSets qs 1 [] x) (append-nil rs) (append-nil (linesOf rs vs)))
-    ∙ lines-read shortSets rs [] 1 [] vs [] l i (e ∙ sym n)
+    ∙ read-with h n text (heads-after h j vs s a l e w (omega (arith, headed h a)) (λ z. absurd (omega (arith, headed h a)))) (ends n b none e l w)
+    ∙ first-lines h j vs s a l e w n (k .1) (omega arith)
+    ∙ lines-done h n (j + 1) vs s j m (omega arith)
+  where
+    ends : (n : ℕ) → Gained n → (n ≡ shortSets → s ≡ []) → length vs ≡ linesFor h n → linesFor h n ≤ linesFor h sets → allIn (take (linesFor h n) (picked h rows)) vs ≡ true →
+        setsIn h (linesOf (take (linesFor h n) (picked h rows)) vs ++ s) ≡ n
+    ends n full none e l w = on-after h (linesFor h sets) vs s a l e w (omega arith) (omega arith)
+    ends n short none e l w =
+        let j = linesFor h shortSets in
+        let q : drop j (take j (picked h rows)) ≡ [] = drop-of-length-le (take j (picked h rows)) {i = j} (omega (arith, front-long h j vs s a l e w)) in
+        let x = past h j vs s a l e w j (omega arith) ∙ ap (λ (rs : List Row). linesOf rs (drop j vs) ++ s) q ∙ none refl in
+        ends-short h (linesOf (take j (picked h rows)) vs ++ s) (omega (arith, ap length x))
 
 -- ---- settings that nothing is wrong with
 
--- their text is read as these settings
-pub text-read : (s : Settings) → length (s .gains) ≡ sets → settingsRefusal s ≡ 0 → readText (textOf s) ≡ record { code = 0; line = 0; settings = s }
-unfolding textFor inTable
-text-read s g e =
-    let t = sound s e in
-    let vs = valuesOf s in
-    ap readText (sym (append-nil (linesOf rows vs)))
-    ∙ all-right vs [] (values-long s g) (t .within)
-    ∙ ap (λ (x : Settings). readEnd x 0) (settings-values s g)
-    ∙ end-taken s 0 refl (t .order)
+-- settings that a text of this form can have: those of the lines that it leaves out are the ones that stand for them
+pub record Said (h n : ℕ) (s : Settings) : Type 0 where
+  pub sixteen : length (s .gains) ≡ sets
+  pub right : settingsRefusal s ≡ 0
+  pub head : completed h (picked h (valuesOf s)) ≡ valuesOf s
+  pub gain : filled n s ≡ s
 
--- and so are its first 26 lines, where the sets after them are set 0
-pub short-read : (s : Settings) → length (s .gains) ≡ sets → settingsRefusal s ≡ 0 → filled shortSets s ≡ s →
-    readText (textFor shortSets s) ≡ record { code = 0; line = 0; settings = s }
+-- their text is read as these settings
+pub form-read : (h n : ℕ) (s : Settings) → Headed h → Gained n → Said h n s → readText (textFor h n s) ≡ record { code = 0; line = 0; settings = s }
 unfolding textFor inTable
-short-read s g e f =
-    let t = sound s e in
-    let vs = take shortLines (valuesOf s) in
-    let ws = drop shortLines (valuesOf s) in
-    let n : length vs ≡ shortLines = length-take-le shortLines (valuesOf s) (omega (arith, values-long s g)) in
-    let p = take-append-drop shortLines (valuesOf s) in
-    let m = n ∙ sym (rows-long shortSets) in
-    let i : allIn (rowsOf shortSets) vs ≡ true = front-in (rowsOf shortSets) vs ws m (ap (allIn (rowsOf shortSets)) p ∙ rows-front shortSets (valuesOf s) (omega arith) (t .within)) in
-    ap readText (ap (linesOf (rowsOf shortSets)) (sym p) ∙ lines-front (rowsOf shortSets) vs ws m)
-    ∙ short-right vs n i
-    ∙ ap (λ (x : Settings). readEnd x 0) (filled-first shortSets (valuesOf s) (omega arith) (omega arith) ∙ ap (filled shortSets) (settings-values s g) ∙ f)
-    ∙ end-taken s 0 refl (t .order)
+form-read h n s a b t =
+    let o = sound s (t .right) in
+    let l = headed h a in
+    let k = gained n b in
+    let rs = picked h (rowsOf n) in
+    let us = picked h (valuesOf s) in
+    let vs = take (linesFor h n) us in
+    let ws = drop (linesFor h n) us in
+    let c = values-long s (t .sixteen) in
+    let d : length us ≡ linesFor h sets = picked-long h (l .1) (valuesOf s) (omega arith) ∙ omega (arith, c, l) in
+    let e : length vs ≡ linesFor h n = length-take-le (linesFor h n) us (omega arith) in
+    let p = take-append-drop (linesFor h n) us in
+    let m = e ∙ sym (form-long h n (l .1)) in
+    let w = picked-in h (l .0) (l .1) (rowsOf n) (valuesOf s) (omega (arith, rows-long n)) (omega arith) (rows-front n (valuesOf s) (k .1) (o .within)) in
+    let i : allIn rs vs ≡ true = front-in rs vs ws m (ap (allIn rs) p ∙ w) in
+    ap readText (ap (linesOf rs) (sym p) ∙ lines-front rs vs ws m ∙ sym (append-nil (linesOf rs vs)))
+    ∙ all-right h n vs [] a b (λ _. refl) e i
+    ∙ ap (λ (x : Settings). readEnd x 0)
+    (filled-picked h (l .0) (l .1) (valuesOf s) c (t .head) n (omega arith) (k .1) ∙ ap (filled n) (settings-values s (t .sixteen)) ∙ t .gain)
+    ∙ end-taken s 0 refl (o .order)
 
 -- ---- a text that is accepted
 
--- it is that of the settings it is read as, with which nothing is wrong
-pub record Again (k : ℕ) (text : List ℕ) (s : Settings) : Type 0 where
-  pub sixteen : length (s .gains) ≡ sets
-  pub right : settingsRefusal s ≡ 0
-  pub full : filled k s ≡ s
-  pub same : text ≡ textFor k s
+-- it is that of the settings it is read as
+pub record Again (h n : ℕ) (text : List ℕ) (s : Settings) : Type 0 where
+  pub said : Said h n s
+  pub same : text ≡ textFor h n s
 
-pub text-back : (text : List ℕ) → readText text .code ≡ 0 → Again (setsIn text) text (readText text .settings)
+pub text-back : (text : List ℕ) → readText text .code ≡ 0 → Again (headsIn text) (setsIn (headsIn text) text) text (readText text .settings)
 unfolding readText textFor
 text-back text e =
-    let k = setsIn text in
-    let few = sets-some text in
-    let t = lines-back k (rowsOf k) 1 [] text e in
-    let vs = valuesIn (rowsOf k) text in
-    let n : length vs ≡ linesFor k = valued (rowsOf k) text ∙ rows-long k in
-    let x = filled k (settingsOf vs) in
-    let o = end-yes x 0 (sym (ap (λ (d : Reading). d .code) (t .end)) ∙ e) .order in
-    let v = values-filled k vs (few .1) n in
-    let a : Again k text x =
+    let h = headsIn text in
+    let k = setsIn h text in
+    let l = headed h (heads-in text) in
+    let few = gained k (sets-in h text) in
+    let rs = picked h (rowsOf k) in
+    let t = lines-back h k rs 1 [] text e in
+    let vs = valuesIn rs text in
+    let c : length vs ≡ linesFor h k = valued rs text ∙ form-long h k (l .1) in
+    let ws = completed h vs in
+    let d : h ≤ length vs = omega arith in
+    let n : length ws ≡ linesFor heads k = completed-long h (l .0) (l .1) vs d ∙ omega (arith, c, l) in
+    let x = filled k (settingsOf ws) in
+    let o = end-yes x 0 (sym (ap (λ (y : Reading). y .code) (t .end)) ∙ e) .order in
+    let v = values-filled k ws (few .1) n in
+    let more = each gainValues (replicate (sets - k) (gainsFrom heads ws)) in
+    let q : picked h (valuesOf x) ≡ vs ++ more =
+    ap (picked h) v ∙ picked-append h (l .1) ws (omega arith) more ∙ ap (λ (us : List ℤ). us ++ more) (picked-completed h (l .0) (l .1) vs d) in
+    let a : Again h k text x =
     record {
-      sixteen = filled-long k (settingsOf vs) (few .1) refl;
-      right = rw (filled-in k vs (omega (arith, few .0)) (few .1) n (t .within), o);
-      full = filled-twice k (settingsOf vs) (few .1) refl (omega (arith, few .0));
-      same = t .same ∙ sym (ap (linesOf (rowsOf k)) v ∙ lines-front (rowsOf k) vs _ (n ∙ sym (rows-long k)));
+      said = record {
+        sixteen = filled-long k (settingsOf ws) (few .1) refl;
+        right = rw (filled-in k ws (omega (arith, few .0)) (few .1) n (completed-in h (l .0) (l .1) k vs d (t .within)), o);
+        head = ap (completed h) q ∙ completed-append h (l .0) (l .1) vs d more ∙ sym v;
+        gain = filled-twice k (settingsOf ws) (few .1) refl (omega (arith, few .0));
+      };
+      same = t .same ∙ sym (ap (linesOf rs) q ∙ lines-front rs vs more (c ∙ sym (form-long h k (l .1))));
     } in
-    subst (Again k text) (sym (ap (λ (d : Reading). d .settings) (t .end ∙ end-taken x 0 refl o))) a
+    subst (Again h k text) (sym (ap (λ (y : Reading). y .settings) (t .end ∙ end-taken x 0 refl o))) a
 
--- in either form
-pub full-back : (text : List ℕ) → readText text .code ≡ 0 → 0 < length (afterLines shortLines text) → Again sets text (readText text .settings)
-full-back text e more = subst (λ (k : ℕ). Again k text (readText text .settings)) (goes-on text more) (text-back text e)
+-- with the form known
+pub form-back : (h n : ℕ) (text : List ℕ) → readText text .code ≡ 0 → headsIn text ≡ h → setsIn h text ≡ n → Again h n text (readText text .settings)
+form-back h n text e p q =
+    let s = readText text .settings in
+    subst (λ (k : ℕ). Again h k text s) q (subst (λ (k : ℕ). Again k (setsIn k text) text s) p (text-back text e))
 
-pub short-back : (text : List ℕ) → readText text .code ≡ 0 → afterLines shortLines text ≡ [] → Again shortSets text (readText text .settings)
-short-back text e end = subst (λ (k : ℕ). Again k text (readText text .settings)) (ends-short text (omega (arith, ap length end))) (text-back text e)
+pub ends-here : (h : ℕ) (text : List ℕ) → afterLines (linesFor h shortSets) text ≡ [] → setsIn h text ≡ shortSets
+ends-here h text end = ends-short h text (omega (arith, ap length end))
 
--- any set from 4 on is set 0
-pub missing-sets : {text : List ℕ} (s : Settings) → Again shortSets text s → (k : ℕ) → shortSets ≤ k → k < sets → gainsAt (s .gains) k ≡ gainsAt (s .gains) 0
-missing-sets s a k h l =
-    ap (λ (x : Settings). gainsAt (x .gains) k) (sym (a .full)) ∙ filled-at shortSets s (omega arith) (a .sixteen) k h l
+-- any set that it has no lines of is set 0
+pub missing-sets : {h n : ℕ} {text : List ℕ} (s : Settings) → Gained n → Again h n text s → (k : ℕ) → n ≤ k → k < sets → gainsAt (s .gains) k ≡ gainsAt (s .gains) 0
+missing-sets {h} {n} s b t k l m =
+    ap (λ (x : Settings). gainsAt (x .gains) k) (sym (t .said .gain)) ∙ filled-at n s (gained n b .1) (t .said .sixteen) k l m
 
--- the writer's text and its first 26 lines
-pub short-front : (s : Settings) → length (s .gains) ≡ sets →
-    textOf s ≡ textFor shortSets s ++ linesOf (drop shortLines rows) (drop shortLines (valuesOf s))
-unfolding textFor
-short-front s g =
-    let vs = take shortLines (valuesOf s) in
-    let ws = drop shortLines (valuesOf s) in
-    let rs = rowsOf shortSets in
-    let q : take shortLines rows ≡ rs = sym (rows-take shortSets shortLines (omega arith) (omega arith)) ∙ take-all shortLines rs (omega (arith, rows-long shortSets)) in
-    let m : length vs ≡ length rs = length-take-le shortLines (valuesOf s) (omega (arith, values-long s g)) ∙ sym (rows-long shortSets) in
-    let p = take-append-drop shortLines (valuesOf s) in
-    ap₂ linesOf (sym (take-append-drop shortLines rows) ∙ ap (λ (x : List Row). x ++ drop shortLines rows) q) (sym p)
-    ∙ lines-both rs (drop shortLines rows) vs ws m
-    ∙ ap (λ (x : List ℕ). x ++ linesOf (drop shortLines rows) ws) (sym (lines-front rs vs ws m) ∙ ap (linesOf rs) p)
+-- ---- which settings a text of a form can have
 
--- which of the two an accepted text is
-abbrev Form : List ℕ → Settings → Type 0
-Form text s = (text ≡ textOf s) ⊎ ((filled shortSets s ≡ s) × (text ≡ textFor shortSets s))
+module _ (h n : ℕ) (s : Settings) where
+  -- where it leaves the mean out this is 1, and where it ends after set 3, set 0 stands for the sets after it
+  pub said-of : Headed h → Gained n → length (s .gains) ≡ sets → settingsRefusal s ≡ 0 → (h ≡ firsts → s .mean ≡ pos 1) → (n ≡ shortSets → filled shortSets s ≡ s) → Said h n s
+  said-of a b g e mean gain = record { sixteen = g; right = e; head = heading h a mean; gain = gaining n b gain }
+    where
+      heading : (h : ℕ) → Headed h → (h ≡ firsts → s .mean ≡ pos 1) → completed h (picked h (valuesOf s)) ≡ valuesOf s
+      heading h with-mean f = refl
+      heading h no-mean f = sym (ap (λ (z : ℤ). take firsts (valuesOf s) ++ (z ∷ drop heads (valuesOf s))) (f refl))
 
-pub forms-back : (text : List ℕ) → readText text .code ≡ 0 → (s : Settings) × (length (s .gains) ≡ sets) × (settingsRefusal s ≡ 0) × Form text s
-forms-back text e = by-test (ltb 0 (length (afterLines shortLines text)))
-    (λ h. let t = full-back text e (ltb-true 0 _ h) in (readText text .settings, t .sixteen, t .right, inl (t .same)))
-    (λ h. let t = short-back text e (none (afterLines shortLines text) h) in (readText text .settings, t .sixteen, t .right, inr (t .full, t .same)))
-  where
-    none : (s : List ℕ) → ltb 0 (length s) ≡ false → s ≡ []
-    none [] h = refl
-    none (b ∷ s) h = absurd (omega (arith, ltb-false 0 (suc (length s)) h))
+      gaining : (n : ℕ) → Gained n → (n ≡ shortSets → filled shortSets s ≡ s) → filled n s ≡ s
+      gaining n full f = filled-all s g
+      gaining n short f = f refl
 
-pub forms-read : (text : List ℕ) (s : Settings) → length (s .gains) ≡ sets → settingsRefusal s ≡ 0 → Form text s → readText text .code ≡ 0
-forms-read text s g e (inl p) = ap (λ (x : List ℕ). readText x .code) p ∙ ap (λ (d : Reading). d .code) (text-read s g e)
-forms-read text s g e (inr p) = ap (λ (x : List ℕ). readText x .code) (p .1) ∙ ap (λ (d : Reading). d .code) (short-read s g e (p .0))
+  -- and nothing else
+  pub said-mean : Said h n s → h ≡ firsts → s .mean ≡ pos 1
+  said-mean t p =
+      sym (ap (λ (k : ℕ). getD (completed k (picked k (valuesOf s))) firsts (pos 0)) (sym p) ∙ ap (λ (vs : List ℤ). getD vs firsts (pos 0)) (t .head))
 
--- how long it is
-pub form-long : (text : List ℕ) → readText text .code ≡ 0 → length text ≤ longestText
-form-long text e = long text (forms-back text e)
-  where
-    long : (text : List ℕ) → (s : Settings) × (length (s .gains) ≡ sets) × (settingsRefusal s ≡ 0) × Form text s → length text ≤ longestText
-    long text (s, g, r, inl p) = rw p (sound-long s r)
-    long text (s, g, r, inr (f, p)) = omega (arith, ap length p, sound-short s r)
+  pub said-gains : Said h n s → n ≡ shortSets → filled shortSets s ≡ s
+  said-gains t p = ap (λ (k : ℕ). filled k s) (sym p) ∙ t .gain
+
+-- the writer's text leaves nothing out
+pub full-read : (s : Settings) → length (s .gains) ≡ sets → settingsRefusal s ≡ 0 → readText (textOf s) ≡ record { code = 0; line = 0; settings = s }
+full-read s g e = form-read heads sets s with-mean full (said-of heads sets s with-mean full g e (λ z. absurd (omega arith)) (λ z. absurd (omega arith)))
+
+-- ---- the writer's text of these settings
+
+-- the lines of the first h rows
+abbrev pub firstLines : ℕ → Settings → List ℕ
+firstLines h s = linesOf (take h rows) (take h (valuesOf s))
+
+-- those that a text with no more rows before the gain sets leaves out there, as they are written
+abbrev pub leftOut : ℕ → List ℕ
+leftOut h = linesOf (drop (h - firsts) laterRows) (drop (h - firsts) absent)
+
+-- those of the first n gain sets, and of the sets after them
+abbrev pub setLines : ℕ → Settings → List ℕ
+setLines n s = linesOf (drop heads (rowsOf n)) (drop heads (valuesOf s))
+
+abbrev pub otherLines : ℕ → Settings → List ℕ
+otherLines n s = linesOf (drop (linesFor heads n) rows) (drop (linesFor heads n) (valuesOf s))
+
+module _ (h n : ℕ) (s : Settings) (a : Headed h) (b : Gained n) (t : Said h n s) where
+  rows-many : heads ≤ length (rowsOf n)
+  rows-many = omega (arith, rows-long n)
+
+  values-many : heads ≤ length (valuesOf s)
+  values-many = omega (arith, values-long s (t .sixteen))
+
+  pub form-apart : textFor h n s ≡ firstLines h s ++ setLines n s
+  unfolding textFor
+  form-apart =
+      let m = headed h a .1 in
+      let k = gained n b .1 in
+      let rs = picked h (rowsOf n) in
+      let us = picked h (valuesOf s) in
+      let p : take h (rowsOf n) ≡ take h rows = sym (ap (take h) (rows-parts n k) ∙ take-append-le h (rowsOf n) _ (omega (arith, rows-many))) in
+      lines-split h rs us
+      ∙ ap₂ (λ (x y : List ℕ). x ++ y)
+      (ap₂ linesOf (take-picked h m (rowsOf n) rows-many ∙ p) (take-picked h m (valuesOf s) values-many))
+      (ap₂ linesOf (drop-picked h m (rowsOf n) rows-many) (drop-picked h m (valuesOf s) values-many))
+
+  pub form-after : afterLines h (textFor h n s) ≡ setLines n s
+  unfolding textFor inTable
+  form-after =
+      let l = headed h a in
+      let k = gained n b .1 in
+      let rs = picked h (rowsOf n) in
+      let us = picked h (valuesOf s) in
+      let i = picked-in h (l .0) (l .1) (rowsOf n) (valuesOf s) rows-many values-many (rows-front n (valuesOf s) k (sound s (t .right) .within)) in
+      ap (afterLines h) (sym (append-nil (linesOf rs us)))
+      ∙ lines-past h rs us [] (form-lined h n (l .1) k) i (omega (arith, form-long h n (l .1)))
+      ∙ append-nil (linesOf (drop h rs) (drop h us))
+      ∙ ap₂ linesOf (drop-picked h (l .1) (rowsOf n) rows-many) (drop-picked h (l .1) (valuesOf s) values-many)
+
+  -- what a form leaves out before the gain sets
+  left-rows : (h : ℕ) → Headed h → take (heads - h) (drop h rows) ≡ drop (h - firsts) laterRows
+  unfolding rowsOf
+  left-rows h with-mean = refl
+  left-rows h no-mean = refl
+
+  left-values : (h : ℕ) → Headed h → Said h n s → take (heads - h) (drop h (valuesOf s)) ≡ drop (h - firsts) absent
+  left-values h with-mean t = refl
+  left-values h no-mean t = ap (λ (z : ℤ). z ∷ []) (said-mean firsts n s t refl)
+
+  -- and after set n
+  sets-apart : linesOf (drop heads rows) (drop heads (valuesOf s)) ≡ setLines n s ++ otherLines n s
+  sets-apart =
+      let k = gained n b .1 in
+      let rs = drop heads (rowsOf n) in
+      let ws = drop heads (valuesOf s) in
+      let c : length rs ≡ keys * n = length-drop heads (rowsOf n) ∙ omega (arith, rows-long n) in
+      let d : length (take (keys * n) ws) ≡ keys * n = length-take-le (keys * n) ws (rw length-drop (omega (arith, values-long s (t .sixteen)))) in
+      let p : take (keys * n) (drop heads rows) ≡ rs =
+      ap (λ (qs : List Row). take (keys * n) (drop heads qs)) (rows-parts n k)
+      ∙ ap (take (keys * n)) (drop-append-le heads (rowsOf n) _ rows-many)
+      ∙ take-at rs _ (keys * n) c in
+      let q : linesOf rs (take (keys * n) ws) ≡ linesOf rs ws =
+      sym (ap (linesOf rs) (sym (take-append-drop (keys * n) ws)) ∙ lines-front rs (take (keys * n) ws) (drop (keys * n) ws) (d ∙ sym c)) in
+      lines-split (keys * n) (drop heads rows) ws
+      ∙ ap₂ (λ (x y : List ℕ). x ++ y) (ap (λ (qs : List Row). linesOf qs (take (keys * n) ws)) p ∙ q)
+      (ap₂ linesOf (drop-drop (keys * n) heads rows) (drop-drop (keys * n) heads (valuesOf s)))
+
+  pub full-apart : textOf s ≡ firstLines h s ++ (leftOut h ++ (setLines n s ++ otherLines n s))
+  full-apart =
+      let m = headed h a .1 in
+      let vs = valuesOf s in
+      let p : h + (heads - h) ≡ heads = omega arith in
+      text-whole s
+      ∙ lines-split h rows vs
+      ∙ ap (λ (x : List ℕ). firstLines h s ++ x)
+      (lines-split (heads - h) (drop h rows) (drop h vs)
+      ∙ ap₂ (λ (x y : List ℕ). x ++ y)
+      (ap₂ linesOf (left-rows h a) (left-values h a t))
+      (ap₂ linesOf (drop-drop (heads - h) h rows ∙ ap (λ (j : ℕ). drop j rows) p) (drop-drop (heads - h) h vs ∙ ap (λ (j : ℕ). drop j vs) p) ∙ sets-apart))
+
+-- ---- how long an accepted text is
+
+pub form-most : (text : List ℕ) → readText text .code ≡ 0 → length text ≤ longestFor (headsIn text) (setsIn (headsIn text) text)
+form-most text e =
+    let h = headsIn text in
+    let n = setsIn h text in
+    let t = text-back text e in
+    let s = readText text .settings in
+    let l = sound-long h n s (heads-in text) (sets-in h text) (t .said .sixteen) (t .said .right) in
+    omega (arith, l, ap length (t .same))
+
+most-of : (h n : ℕ) → Headed h → Gained n → longestFor h n ≤ longestText
+most-of h n with-mean full = omega arith
+most-of h n with-mean short = omega arith
+most-of h n no-mean full = omega arith
+most-of h n no-mean short = omega arith
+
+pub text-most : (text : List ℕ) → readText text .code ≡ 0 → length text ≤ longestText
+text-most text e =
+    let h = headsIn text in
+    omega (arith, form-most text e, most-of h (setsIn h text) (heads-in text) (sets-in h text))

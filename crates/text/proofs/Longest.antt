@@ -1,12 +1,12 @@
 -- How long a text can be: each value at its row's widest, but that hi, being above lo, has at most 7 bytes.
-use Prim.Native.Nat.{ℕ, zero, suc, _+_, _*_, _<_, _≤_, max}
+use Prim.Native.Nat.{ℕ, zero, suc, _+_, _-_, _*_, _<_, _≤_, max}
 use mathlib.Core.Path.{_≡_, refl, ap, _∙_}
 use mathlib.Core.Bool.{true}
 use mathlib.Core.List.{List, [], _∷_, _++_, map}
 use native.Mathlib.Nat.{suc-mul}
 use native.Mathlib.Omega.{arith}
 use lib.IntN.{ℤ, pos, _+ℤ_}
-use lib.ListN.{length, getD, set, length-append}
+use lib.ListN.{length, getD, take, set, length-append}
 use lib.Signed.{leZ, ltZ}
 use Rattle.whole.specs.Numbers.{inside}
 use Rattle.whole.proofs.Truth.{never, both, and}
@@ -14,15 +14,16 @@ use Rattle.whole.proofs.Parts.{zs, yes-le}
 use Rattle.whole.proofs.Lin.{Lin, at, lin-add, lin-pos}
 use Rattle.settings.specs.declared.table.Row.{Row}
 use Rattle.settings.specs.declared.Settings.{Settings}
-use Rattle.settings.specs.Table.{headRows, gainRows, sets, shortSets, keys, numbered, setRows, each, numbersFrom, rowsOf, rows, noRow, inRow}
+use Rattle.settings.specs.Table.{firstRows, headRows, gainRows, sets, shortSets, firsts, keys, numbered, setRows, each, numbersFrom, rowsOf, rows, picked, noRow, inRow}
 use Rattle.settings.specs.Settings.{allIn, inTable, ordered, valuesOf}
 use Rattle.settings.proofs.Lists.{all}
-use Rattle.settings.proofs.Rows.{rows-long}
+use Rattle.settings.proofs.Rows.{rows-long, values-long}
 use Rattle.settings.proofs.Ranges.{all-at, rows-front}
+use Rattle.settings.proofs.Forms.{rows-picked, picked-in}
 use Rattle.word.specs.Decimal.{shown, decimal}
 use Rattle.word.proofs.Widths.{width}
-use Rattle.text.specs.Lines.{keyOf, linesOf, textFor, textOf, longestText, longestShort}
-use Rattle.text.proofs.Rows.{lettered, gains-lettered, key-numbered}
+use Rattle.text.specs.Lines.{keyOf, linesOf, Headed, with-mean, no-mean, Gained, full, short, textFor, longestFor}
+use Rattle.text.proofs.Rows.{lettered, gains-lettered, key-numbered, headed}
 
 -- ---- lines
 
@@ -95,16 +96,24 @@ hiRow = record {
   3 = getD headRows 2 noRow .3;
 }
 
-head-longest : longestOf (set headRows 2 hiRow) ≡ 70
+-- with the lines of h rows before the gain sets
+heads-longest : (h : ℕ) (rs : List Row) → Headed h → longestOf (set (take h headRows ++ rs) 2 hiRow) ≡ 70 + 9 * (h - firsts) + longestOf rs
 unfolding shown
-head-longest = refl
+heads-longest h rs with-mean = longest-both (set headRows 2 hiRow) rs
+heads-longest h rs no-mean = longest-both (set firstRows 2 hiRow) rs
 
 -- ---- the text
 
--- with the lines of n gain sets
-module _ (n : ℕ) (s : Settings) (m : n ≤ sets) (e : inTable s ≡ true) (o : ordered s ≡ true) where
+-- with the lines of h rows before the gain sets, and of n sets
+module _ (h n : ℕ) (s : Settings) (a : Headed h) (m : n ≤ sets) (g : length (s .gains) ≡ sets) (e : inTable s ≡ true) (o : ordered s ≡ true) where
+  lines-in : allIn (picked h (rowsOf n)) (picked h (valuesOf s)) ≡ true
+  unfolding inTable
+  lines-in =
+      let b = headed h a in
+      picked-in h (b .0) (b .1) (rowsOf n) (valuesOf s) (omega (arith, rows-long n)) (omega (arith, values-long s g)) (rows-front n (valuesOf s) m e)
+
   -- hi in the row that is left to it
-  hi-in : allIn (set (rowsOf n) 2 hiRow) (valuesOf s) ≡ true
+  hi-in : inRow hiRow (s .hi) ≡ true
   unfolding inTable rowsOf
   hi-in =
       let lo = all-at rows (valuesOf s) e 1 (omega (arith, rows-long sets)) in
@@ -112,12 +121,28 @@ module _ (n : ℕ) (s : Settings) (m : n ≤ sets) (e : inTable s ≡ true) (o :
       let lo-least = both (leZ (getD headRows 1 noRow .2) (s .lo)) (leZ (s .lo) (getD headRows 1 noRow .3)) lo .0 in
       let hi-most = both (leZ (getD headRows 2 noRow .2) (s .hi)) (leZ (s .hi) (getD headRows 2 noRow .3)) hi .1 in
       let lower = both (ltZ (s .lo) (s .hi)) (inside (s .lo) (s .hi) (s .out)) o .0 in
-      in-set (rowsOf n) (valuesOf s) 2 hiRow (rows-front n (valuesOf s) m e) (and (above (getD headRows 1 noRow .2) (s .lo) (s .hi) lo-least lower) hi-most)
+      and (above (getD headRows 1 noRow .2) (s .lo) (s .hi) lo-least lower) hi-most
 
-  lines-most : length (textFor n s) ≤ 70 + (54 * n + keys * digitsFrom 0 n)
-  unfolding textFor rowsOf
+  hi-at : (h : ℕ) → Headed h → getD (picked h (valuesOf s)) 2 (pos 0) ≡ s .hi
+  hi-at h with-mean = refl
+  hi-at h no-mean = refl
+
+  -- the line of hi is the same
+  hi-line : (h : ℕ) → Headed h → linesOf (set (picked h (rowsOf n)) 2 hiRow) (picked h (valuesOf s)) ≡ linesOf (picked h (rowsOf n)) (picked h (valuesOf s))
+  unfolding rowsOf
+  hi-line h with-mean = refl
+  hi-line h no-mean = refl
+
+  lines-most : length (textFor h n s) ≤ 70 + 9 * (h - firsts) + (54 * n + keys * digitsFrom 0 n)
+  unfolding textFor
   lines-most =
-      omega (arith, lines-long (set (rowsOf n) 2 hiRow) (valuesOf s) hi-in, longest-both (set headRows 2 hiRow) (each setRows (numbersFrom 0 n)), head-longest, sets-longest 0 n (omega arith))
+      let rs = picked h (rowsOf n) in
+      let vs = picked h (valuesOf s) in
+      let i = in-set rs vs 2 hiRow lines-in (ap (inRow hiRow) (hi-at h a) ∙ hi-in) in
+      let b = headed h a in
+      let p = ap (λ (qs : List Row). longestOf (set qs 2 hiRow)) (rows-picked h (b .0) (b .1) n) in
+      let l : length (linesOf (set rs 2 hiRow) vs) ≤ longestOf (set rs 2 hiRow) = lines-long (set rs 2 hiRow) vs i in
+      omega (arith, l, ap length (hi-line h a), p, heads-longest h (each setRows (numbersFrom 0 n)) a, sets-longest 0 n (omega arith))
 
 all-digits : digitsFrom 0 sets ≡ 22
 unfolding shown
@@ -127,10 +152,7 @@ short-digits : digitsFrom 0 shortSets ≡ 4
 unfolding shown
 short-digits = refl
 
--- "1,044 bytes at most"
-pub text-long : (s : Settings) → inTable s ≡ true → ordered s ≡ true → length (textOf s) ≤ longestText
-text-long s e o = omega (arith, lines-most sets s (omega arith) e o, all-digits)
-
--- "The longest text has 306 bytes", of those with 26 lines
-pub short-long : (s : Settings) → inTable s ≡ true → ordered s ≡ true → length (textFor shortSets s) ≤ longestShort
-short-long s e o = omega (arith, lines-most shortSets s (omega arith) e o, short-digits)
+-- in each of the forms
+pub text-long : (h n : ℕ) (s : Settings) → Headed h → Gained n → length (s .gains) ≡ sets → inTable s ≡ true → ordered s ≡ true → length (textFor h n s) ≤ longestFor h n
+text-long h n s a full g e o = omega (arith, lines-most h sets s a (omega arith) g e o, all-digits)
+text-long h n s a short g e o = omega (arith, lines-most h shortSets s a (omega arith) g e o, short-digits)

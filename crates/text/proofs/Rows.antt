@@ -1,28 +1,31 @@
 -- Rules of the rows of a text's lines, shown once for any gain set.
 use Prim.Native.Nat.{ℕ, zero, suc, _+_, _-_, _<_, _≤_}
-use mathlib.Core.Path.{_≡_, refl, sym, ap, _∙_}
+use mathlib.Core.Path.{_≡_, refl, sym, ap, ap₂, _∙_}
 use mathlib.Core.Bool.{Bool, true, not, _&&_}
 use mathlib.Core.List.{List, [], _∷_, _++_, map}
 use native.Mathlib.Omega.{arith}
 use borrow.Author.Tests.{leb-true, le-leb, eqb-true, ne-eqb}
-use lib.Dec.{leb, eqb}
+use lib.Dec.{leb, ltb, eqb}
 use lib.IntN.{ℤ, pos, negsuc}
 use lib.ListN.{length, getD, take, drop, length-append, length-take, drop-of-length-le, List·getD-append}
 use lib.Seq.{sets-eq, take-at}
 use lib.Signed.{leZ}
 use Rattle.whole.specs.Words.{bytes}
-use Rattle.whole.proofs.Truth.{both, and}
+use Rattle.whole.proofs.Truth.{both, and, chosen}
 use Rattle.whole.proofs.Lists.{next}
 use Rattle.settings.specs.declared.table.Row.{Row}
-use Rattle.settings.specs.Table.{longestKey, headRows, gainRows, sets, linesFor, lines, numbered, setRows, each, numbersFrom, rowsOf, rows, noRow}
-use Rattle.settings.proofs.Lists.{all, all-at, all-both}
+use Rattle.settings.specs.Table.{longestKey, headRows, gainRows, firsts, heads, sets, shortSets, linesFor, lines, numbered, setRows, each, numbersFrom, rowsOf, rows, picked, placeOf, noRow}
+use Rattle.settings.specs.declared.Settings.{Settings}
+use Rattle.settings.specs.Settings.{valuesOf}
+use Rattle.settings.proofs.Lists.{all, all-at, all-both, all-take, all-drop}
 use Rattle.settings.proofs.Rows.{rows-long, rows-parts}
+use Rattle.settings.proofs.Forms.{picked-all, picked-long, picked-append, picked-at}
 use Rattle.word.specs.Decimal.{isDigit, allDigits, shown}
 use Rattle.word.specs.End.{feed}
 use Rattle.word.proofs.Words.{without, without-both}
 use Rattle.word.proofs.Digits.{digit}
 use Rattle.word.proofs.Decimals.{shown-form}
-use Rattle.text.specs.Lines.{keyOf, lineOf, linesOf}
+use Rattle.text.specs.Lines.{keyOf, lineOf, linesOf, Headed, with-mean, no-mean, Gained, full, short, textFor, textOf}
 
 -- ---- bytes without a line feed
 
@@ -124,7 +127,7 @@ sets-lined k zero h = refl
 sets-lined k (suc n) h =
     all-both lined (setRows k) (each setRows (numbersFrom (k + 1) n)) (letters-lined k (omega arith) gainRows gains-lettered) (sets-lined (k + 1) n (omega arith))
 
-pub rows-lined : (n : ℕ) → n ≤ sets → all lined (rowsOf n) ≡ true
+rows-lined : (n : ℕ) → n ≤ sets → all lined (rowsOf n) ≡ true
 unfolding rowsOf
 rows-lined n h = all-both lined headRows (each setRows (numbersFrom 0 n)) refl (sets-lined 0 n (omega arith))
 
@@ -132,26 +135,62 @@ pub key-short : (i : ℕ) → getD rows i noRow .1 ≤ longestKey
 unfolding noRow
 key-short i = is-lined (getD rows i noRow) (all-at lined noRow rows (rows-lined sets (omega arith)) refl i) .short
 
--- ---- one by one
+-- ---- the rows of a text's lines: the first h before the gain sets, and those of n sets
 
-pub rows-next : (n i : ℕ) → i < linesFor n → drop i (rowsOf n) ≡ getD (rowsOf n) i noRow ∷ drop (i + 1) (rowsOf n)
-rows-next n i h = next (rowsOf n) i noRow (omega (arith, rows-long n))
+module _ (h n : ℕ) (m : h ≤ heads) where
+  enough : heads ≤ length (rowsOf n)
+  enough = omega (arith, rows-long n)
 
-pub rows-done : (n i : ℕ) → linesFor n ≤ i → drop i (rowsOf n) ≡ []
-rows-done n i h = let k : length (rowsOf n) ≤ i = omega (arith, rows-long n) in drop-of-length-le (rowsOf n) k
+  pub form-long : length (picked h (rowsOf n)) ≡ linesFor h n
+  form-long = picked-long h m (rowsOf n) enough ∙ omega (arith, rows-long n)
 
--- the rows of fewer gain sets are the first of all
-pub row-of : (n i : ℕ) → n ≤ sets → i < linesFor n → getD (rowsOf n) i noRow ≡ getD rows i noRow
-row-of n i m h =
-    sym
-    (ap (λ (rs : List Row). getD rs i noRow) (rows-parts n m)
-    ∙ List·getD-append (rowsOf n) (each setRows (numbersFrom n (sets - n))) noRow i (omega (arith, rows-long n)))
+  pub form-lined : n ≤ sets → all lined (picked h (rowsOf n)) ≡ true
+  form-lined l =
+      all-both lined (take h (rowsOf n)) (drop heads (rowsOf n)) (all-take lined (rowsOf n) h (rows-lined n l)) (all-drop lined (rowsOf n) heads (rows-lined n l))
+
+  pub form-next : (i : ℕ) → i < linesFor h n → drop i (picked h (rowsOf n)) ≡ getD (picked h (rowsOf n)) i noRow ∷ drop (i + 1) (picked h (rowsOf n))
+  form-next i l = next (picked h (rowsOf n)) i noRow (omega (arith, form-long))
+
+  pub form-done : (i : ℕ) → linesFor h n ≤ i → drop i (picked h (rowsOf n)) ≡ []
+  form-done i l = let k : length (picked h (rowsOf n)) ≤ i = omega (arith, form-long) in drop-of-length-le (picked h (rowsOf n)) k
+
+  -- those of fewer gain sets are the first of all
+  pub form-parts : n ≤ sets → picked h rows ≡ picked h (rowsOf n) ++ each setRows (numbersFrom n (sets - n))
+  form-parts l = ap (picked h) (rows-parts n l) ∙ picked-append h m (rowsOf n) enough (each setRows (numbersFrom n (sets - n)))
+
+  pub form-at : (i : ℕ) → n ≤ sets → i < linesFor h n → getD (picked h (rowsOf n)) i noRow ≡ getD (picked h rows) i noRow
+  form-at i l k =
+      sym
+      (ap (λ (rs : List Row). getD rs i noRow) (form-parts l)
+      ∙ List·getD-append (picked h (rowsOf n)) (each setRows (numbersFrom n (sets - n))) noRow i (omega (arith, form-long)))
+
+-- the row of line i, by its place
+pub row-at : (h i : ℕ) → h ≤ heads → getD (picked h rows) i noRow ≡ getD rows (placeOf h i) noRow
+row-at h i m = picked-at h m rows (omega (arith, rows-long sets)) i noRow
+
+pub place-in : (h n i : ℕ) → h ≤ heads → n ≤ sets → i < linesFor h n → placeOf h i < lines
+place-in h n i m l k = chosen (λ (j : ℕ). j < lines) (ltb i h) (λ _. omega arith) (λ _. omega arith)
 
 -- ---- the lines of the rows
 
 pub lines-next : (vs : List ℤ) (i : ℕ) → i < lines → length vs ≡ lines →
     linesOf (drop i rows) (drop i vs) ≡ lineOf (getD rows i noRow) (getD vs i (pos 0)) ++ linesOf (drop (i + 1) rows) (drop (i + 1) vs)
-lines-next vs i h e = rw (rows-next sets i h, next vs i (pos 0) (omega arith))
+lines-next vs i h e = rw (next rows i noRow (omega (arith, rows-long sets)), next vs i (pos 0) (omega arith))
 
 pub lines-end : (vs : List ℤ) (i : ℕ) → lines ≤ i → linesOf (drop i rows) vs ≡ []
-lines-end vs i h = rw (rows-done sets i h)
+lines-end vs i h = rw (drop-of-length-le rows {i = i} (omega (arith, rows-long sets)))
+
+-- the writer's text has every line
+pub text-whole : (s : Settings) → textOf s ≡ linesOf rows (valuesOf s)
+unfolding textFor
+text-whole s = ap₂ linesOf (picked-all rows) (picked-all (valuesOf s))
+
+-- ---- the forms
+
+pub headed : (h : ℕ) → Headed h → (firsts ≤ h) × (h ≤ heads)
+headed h with-mean = (omega arith, omega arith)
+headed h no-mean = (omega arith, omega arith)
+
+pub gained : (n : ℕ) → Gained n → (shortSets ≤ n) × (n ≤ sets)
+gained n full = (omega arith, omega arith)
+gained n short = (omega arith, omega arith)

@@ -1,20 +1,23 @@
--- The text of 01's settings C, and settings whose text is the longest.
+-- The text of 01's settings C, and settings whose text is the longest of its form.
 use Prim.Native.Nat.{ℕ}
+use mathlib.Core.Bool.{cond}
 use mathlib.Core.Path.{_≡_, refl, ap}
 use mathlib.Core.List.{List, _++_}
+use native.Mathlib.Omega.{arith}
+use lib.Dec.{eqb}
 use lib.IntN.{pos, negsuc}
 use lib.ListN.{length, replicate}
 use Rattle.settings.specs.declared.Gains.{Gains}
 use Rattle.settings.specs.declared.Settings.{Settings}
 use Rattle.whole.specs.Words.{bytes}
-use Rattle.settings.specs.Table.{gain, share, sets, shortSets, rowsOf}
+use Rattle.settings.specs.Table.{gain, share, window, firsts, sets, shortSets, rowsOf}
 use Rattle.settings.specs.Settings.{inTable, settingsRefusal}
 use Rattle.settings.specs.SettingsC.{gainSet, settingsC}
 use Rattle.word.specs.Decimal.{shown}
 use Rattle.text.specs.declared.reader.Reading.{Reading}
-use Rattle.text.specs.Lines.{textFor, textOf, longestText, longestShort}
+use Rattle.text.specs.Lines.{Headed, with-mean, no-mean, Gained, full, short, textFor, longestFor}
 use Rattle.text.specs.Reader.{readText}
-use Rattle.text.proofs.Forms.{text-read, short-read}
+use Rattle.text.proofs.Forms.{said-of, form-read}
 
 abbrev pub textC : List ℕ
 textC =
@@ -24,7 +27,7 @@ textC =
     ++ bytes "kp2=65536\nki2=16384\nkd2=0\nalpha2=65536\nkt2=32768\n"
     ++ bytes "kp3=32768\nki3=0\nkd3=0\nalpha3=65536\nkt3=0\n"
 
-pub c-written : textFor shortSets settingsC ≡ textC
+pub c-written : textFor firsts shortSets settingsC ≡ textC
 unfolding textFor rowsOf shown
 c-written = refl
 
@@ -33,33 +36,41 @@ unfolding inTable rowsOf
 c-right = refl
 
 pub c-read : readText textC ≡ record { code = 0; line = 0; settings = settingsC }
-c-read = rw (← c-written) (short-read settingsC refl c-right refl)
+c-read = rw (← c-written) (form-read firsts shortSets settingsC no-mean short (said-of firsts shortSets settingsC no-mean short refl c-right (λ _. refl) (λ _. refl)))
 
--- each value at its widest
+-- each value at its widest; a text without the mean has 1
 abbrev widest : Gains
 widest = gainSet gain gain gain share share
 
-abbrev pub longest : Settings
-longest = record {
+abbrev pub longest : ℕ → Settings
+longest h = record {
   action = pos 1;
   lo = negsuc 999999;
   hi = pos 1000000;
   out = negsuc 999999;
   sp = negsuc 999999;
   rate = pos 2000000;
+  mean = cond (eqb h firsts) (pos 1) (pos window);
   gains = replicate sets widest;
 }
 
-longest-right : settingsRefusal longest ≡ 0
+longest-right : (h : ℕ) → Headed h → settingsRefusal (longest h) ≡ 0
 unfolding inTable rowsOf
-longest-right = refl
+longest-right h with-mean = refl
+longest-right h no-mean = refl
 
-pub longest-written : (length (textOf longest) ≡ longestText) × (length (textFor shortSets longest) ≡ longestShort)
+pub longest-written : (h n : ℕ) → Headed h → Gained n → length (textFor h n (longest h)) ≡ longestFor h n
 unfolding textFor rowsOf shown
-longest-written = (refl, refl)
+longest-written h n with-mean full = refl
+longest-written h n with-mean short = refl
+longest-written h n no-mean full = refl
+longest-written h n no-mean short = refl
 
-pub longest-read : (readText (textOf longest) .code ≡ 0) × (readText (textFor shortSets longest) .code ≡ 0)
-longest-read = (
-  ap (λ (d : Reading). d .code) (text-read longest refl longest-right),
-  ap (λ (d : Reading). d .code) (short-read longest refl longest-right refl),
-)
+pub longest-read : (h n : ℕ) → Headed h → Gained n → readText (textFor h n (longest h)) .code ≡ 0
+longest-read h n a b =
+    let t = said-of h n (longest h) a b refl (longest-right h a) (mean h a) (λ _. refl) in
+    ap (λ (d : Reading). d .code) (form-read h n (longest h) a b t)
+  where
+    mean : (h : ℕ) → Headed h → h ≡ firsts → longest h .mean ≡ pos 1
+    mean h with-mean p = absurd (omega arith)
+    mean h no-mean p = refl

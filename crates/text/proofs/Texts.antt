@@ -10,20 +10,20 @@ use lib.Dec.{ltb, eqb}
 use lib.IntN.{ℤ, pos}
 use lib.ListN.{length, take, drop, length-drop, drop-of-length-le}
 use Rattle.whole.proofs.Truth.{both, chosen, by-test, zero-if, zero-then}
+use Rattle.whole.specs.Words.{bytes}
 use Rattle.settings.specs.declared.table.Row.{Row}
 use Rattle.settings.specs.declared.Settings.{Settings}
-use Rattle.settings.specs.Table.{sets, shortSets, shortLines, linesFor, lines, rowsOf, inRow}
-use Rattle.settings.specs.Settings.{settingsOf, filled, ordered}
+use Rattle.settings.specs.Table.{firsts, heads, sets, shortSets, linesFor, lines, rowsOf, picked, inRow}
+use Rattle.settings.specs.Settings.{settingsOf, completed, filled, ordered}
 use Rattle.word.specs.declared.decimal.Decimal.the-variants.{Is, Wrong}
 use Rattle.word.specs.Decimal.{numberOf, decimalOf}
 use Rattle.word.specs.End.{endAt, feed, begins}
 use Rattle.word.proofs.Words.{part-after}
 use Rattle.text.specs.declared.reader.Line.{Line}
 use Rattle.text.specs.declared.reader.Reading.{Reading}
-use Rattle.text.specs.Lines.{keyOf}
-use Rattle.text.specs.Reader.{lineIn, ended, wordIn, formed, valueIn, lineValue, lineCode, lineRead, afterLine, afterLines, refused, readEnd, readFrom, setsIn, readText}
-use Rattle.settings.proofs.Rows.{rows-long}
-use Rattle.text.proofs.Rows.{rows-done}
+use Rattle.text.specs.Lines.{keyOf, Headed, with-mean, no-mean, Gained, full, short}
+use Rattle.text.specs.Reader.{lineIn, ended, wordIn, formed, valueIn, lineValue, lineCode, lineRead, afterLine, afterLines, refused, readEnd, readFrom, headsIn, setsIn, readText}
+use Rattle.text.proofs.Rows.{form-long, form-done, headed, gained}
 
 -- ---- one line
 
@@ -40,9 +40,9 @@ not-picked : (b : Bool) (x : ℤ) → cond b (Is x) Wrong ≡ Wrong → b ≡ fa
 not-picked true x e = cc
 not-picked false x e = refl
 
-picked : (b : Bool) (x z : ℤ) → cond b (Is x) Wrong ≡ Is z → (b ≡ true) × (x ≡ z)
-picked true x z e = (refl, cc)
-picked false x z e = (cc, cc)
+is-picked : (b : Bool) (x z : ℤ) → cond b (Is x) Wrong ≡ Is z → (b ≡ true) × (x ≡ z)
+is-picked true x z e = (refl, cc)
+is-picked false x z e = (cc, cc)
 
 no-second : (b : Bool) → (b && false) ≡ false
 no-second true = refl
@@ -63,13 +63,13 @@ module _ (r : Row) (s : List ℕ) where
   pub line-out : (z : ℤ) → valueIn r (lineIn s) ≡ Is z → ended s ≡ true → inRow r z ≡ false → lineRead r s ≡ record { code = 15; value = pos 0 }
   unfolding lineCode lineValue
   line-out z v e i =
-      let p = picked (formed r (lineIn s)) (numberOf (wordIn r (lineIn s))) z v in
+      let p = is-picked (formed r (lineIn s)) (numberOf (wordIn r (lineIn s))) z v in
       read-as 15 (rw (e, p .0, p .1, i))
 
   pub line-good : (z : ℤ) → valueIn r (lineIn s) ≡ Is z → ended s ≡ true → inRow r z ≡ true → lineRead r s ≡ record { code = 0; value = z }
   unfolding lineCode lineValue
   line-good z v e i =
-      let p = picked (formed r (lineIn s)) (numberOf (wordIn r (lineIn s))) z v in
+      let p = is-picked (formed r (lineIn s)) (numberOf (wordIn r (lineIn s))) z v in
       read-as 0 (rw (e, p .0, p .1, i)) ∙ ap (λ (x : ℤ). record { code = 0; value = x }) (p .1)
 
 -- a line that is accepted has its value
@@ -117,21 +117,32 @@ no-feed n s h = ap (afterLines n) (drop-of-length-le s {i = endAt feed s + 1} (o
 pub one-line : (n i : ℕ) (s : List ℕ) → i < n → afterLines (n - i) s ≡ afterLines (n - (i + 1)) (afterLine s)
 one-line n i s h = let e : n - i ≡ suc (n - (i + 1)) = omega arith in rw e
 
--- how many gain sets a text has
-pub goes-on : (s : List ℕ) → 0 < length (afterLines shortLines s) → setsIn s ≡ sets
-unfolding setsIn
-goes-on s h = rw (lt-ltb 0 (length (afterLines shortLines s)) h)
+-- which rows before the gain sets a text has
+pub mean-absent : (s : List ℕ) → begins (bytes "kp0") (afterLines firsts s) ≡ true → headsIn s ≡ firsts
+unfolding headsIn
+mean-absent s e = rw e
 
-pub ends-short : (s : List ℕ) → length (afterLines shortLines s) ≤ 0 → setsIn s ≡ shortSets
-unfolding setsIn
-ends-short s h = rw (le-ltb 0 (length (afterLines shortLines s)) h)
+pub mean-there : (s : List ℕ) → begins (bytes "kp0") (afterLines firsts s) ≡ false → headsIn s ≡ heads
+unfolding headsIn
+mean-there s e = rw e
 
-pub sets-some : (s : List ℕ) → (shortSets ≤ setsIn s) × (setsIn s ≤ sets)
-unfolding setsIn
-sets-some s =
-    chosen (λ (k : ℕ). (shortSets ≤ k) × (k ≤ sets)) (ltb 0 (length (afterLines shortLines s)))
-    (λ _. (omega arith, omega arith))
-    (λ _. (omega arith, omega arith))
+pub heads-in : (s : List ℕ) → Headed (headsIn s)
+unfolding headsIn
+heads-in s = chosen Headed (begins (bytes "kp0") (afterLines firsts s)) (λ _. no-mean) (λ _. with-mean)
+
+-- and how many gain sets
+module _ (h : ℕ) (s : List ℕ) where
+  pub goes-on : 0 < length (afterLines (linesFor h shortSets) s) → setsIn h s ≡ sets
+  unfolding setsIn
+  goes-on l = rw (lt-ltb 0 (length (afterLines (linesFor h shortSets) s)) l)
+
+  pub ends-short : length (afterLines (linesFor h shortSets) s) ≤ 0 → setsIn h s ≡ shortSets
+  unfolding setsIn
+  ends-short l = rw (le-ltb 0 (length (afterLines (linesFor h shortSets) s)) l)
+
+  pub sets-in : Gained (setsIn h s)
+  unfolding setsIn
+  sets-in = chosen Gained (ltb 0 (length (afterLines (linesFor h shortSets) s))) (λ _. full) (λ _. short)
 
 -- ---- after the last line
 
@@ -161,22 +172,29 @@ end-yes x left e = by-test (ltb 0 left)
 
 -- ---- the text
 
--- one that has the lines of k gain sets
-module _ (k n : ℕ) (vs : List ℤ) (s : List ℕ) where
-  pub lines-done : (i : ℕ) → linesFor k ≤ i → readFrom k (drop i (rowsOf k)) n vs s ≡ readEnd (filled k (settingsOf vs)) (length s)
-  lines-done i h = ap (λ (rs : List Row). readFrom k rs n vs s) (rows-done k i h)
+pub read-with : (h k : ℕ) (text : List ℕ) → headsIn text ≡ h → setsIn h text ≡ k → readText text ≡ readFrom h k (picked h (rowsOf k)) 1 [] text
+unfolding readText
+read-with h k text e f =
+    ap (λ (x : ℕ). readFrom x (setsIn x text) (picked x (rowsOf (setsIn x text))) 1 [] text) e
+    ∙ ap (λ (x : ℕ). readFrom h x (picked h (rowsOf x)) 1 [] text) f
+
+-- one that has the lines of h rows before the gain sets, and of k sets
+module _ (h k n : ℕ) (vs : List ℤ) (s : List ℕ) where
+  pub lines-done : (i : ℕ) → h ≤ heads → linesFor h k ≤ i →
+      readFrom h k (drop i (picked h (rowsOf k))) n vs s ≡ readEnd (filled k (settingsOf (completed h vs))) (length s)
+  lines-done i m l = ap (λ (rs : List Row). readFrom h k rs n vs s) (form-done h k m i l)
 
   module _ (r : Row) (rs : List Row) where
-    pub line-refused : (lineCode r s ≡ 0 → ⊥) → readFrom k (r ∷ rs) n vs s ≡ refused (lineCode r s) n
+    pub line-refused : (lineCode r s ≡ 0 → ⊥) → readFrom h k (r ∷ rs) n vs s ≡ refused (lineCode r s) n
     line-refused f = rw (ne-eqb (lineCode r s) 0 f)
 
-    pub line-taken : lineCode r s ≡ 0 → readFrom k (r ∷ rs) n vs s ≡ readFrom k rs (n + 1) (vs ++ (lineValue r s ∷ [])) (afterLine s)
+    pub line-taken : lineCode r s ≡ 0 → readFrom h k (r ∷ rs) n vs s ≡ readFrom h k rs (n + 1) (vs ++ (lineValue r s ∷ [])) (afterLine s)
     line-taken e = rw (eq-eqb (lineCode r s) 0 e)
 
     -- where the text is accepted, so is its first line
-    pub first-taken : readFrom k (r ∷ rs) n vs s .code ≡ 0 → lineCode r s ≡ 0
-    first-taken e = by-test (eqb (lineCode r s) 0) (λ h. eqb-true (lineCode r s) 0 h)
-        (λ h. sym (ap (λ (x : Reading). x .code) (line-refused (eqb-false (lineCode r s) 0 h))) ∙ e)
+    pub first-taken : readFrom h k (r ∷ rs) n vs s .code ≡ 0 → lineCode r s ≡ 0
+    first-taken e = by-test (eqb (lineCode r s) 0) (λ t. eqb-true (lineCode r s) 0 t)
+        (λ t. sym (ap (λ (x : Reading). x .code) (line-refused (eqb-false (lineCode r s) 0 t))) ∙ e)
 
 -- ---- every answer that there can be
 
@@ -192,18 +210,20 @@ module _ (P : Reading → Type 0)
     (done : (s : Settings) → P (record { code = 0; line = 0; settings = s }))
     (at-line : (code n : ℕ) → (code ≡ 14) ⊎ (code ≡ 15) → 1 ≤ n → n ≤ lines → P (refused code n))
     (at-end : (code : ℕ) → (code ≡ 17) ⊎ (code ≡ 16) → P (refused code 0)) where
-  lines-answer : (k : ℕ) (rs : List Row) (n : ℕ) (vs : List ℤ) (s : List ℕ) → 1 ≤ n → n + length rs ≤ lines + 1 → P (readFrom k rs n vs s)
+  lines-answer : (h k : ℕ) (rs : List Row) (n : ℕ) (vs : List ℤ) (s : List ℕ) → 1 ≤ n → n + length rs ≤ lines + 1 → P (readFrom h k rs n vs s)
   unfolding readEnd
-  lines-answer k [] n vs s h m =
-      let x = filled k (settingsOf vs) in
+  lines-answer h k [] n vs s l m =
+      let x = filled k (settingsOf (completed h vs)) in
       chosen P (ltb 0 (length s)) (λ _. at-end 17 (inl refl)) (λ _. chosen P (ordered x) (λ _. done x) (λ _. at-end 16 (inr refl)))
-  lines-answer k (r ∷ rs) n vs s h m =
+  lines-answer h k (r ∷ rs) n vs s l m =
       chosen P (eqb (lineCode r s) 0)
-      (λ _. lines-answer k rs (n + 1) (vs ++ (lineValue r s ∷ [])) (afterLine s) (omega arith) (omega arith))
-      (λ f. at-line (lineCode r s) n (line-codes r s (eqb-false (lineCode r s) 0 f)) h (omega arith))
+      (λ _. lines-answer h k rs (n + 1) (vs ++ (lineValue r s ∷ [])) (afterLine s) (omega arith) (omega arith))
+      (λ f. at-line (lineCode r s) n (line-codes r s (eqb-false (lineCode r s) 0 f)) l (omega arith))
 
   pub text-answer : (s : List ℕ) → P (readText s)
   unfolding readText
   text-answer s =
-      let k = setsIn s in
-      lines-answer k (rowsOf k) 1 [] s (omega arith) (omega (arith, rows-long k, sets-some s .1))
+      let h = headsIn s in
+      let k = setsIn h s in
+      let m = headed h (heads-in s) .1 in
+      lines-answer h k (picked h (rowsOf k)) 1 [] s (omega arith) (omega (arith, form-long h k m, m, gained k (sets-in h s) .1))

@@ -1,5 +1,5 @@
 -- Lines there and back: what is written for values is read as these values, and a line that is accepted is written back.
-use Prim.Native.Nat.{ℕ, suc, _+_, _^_, _<_, _≤_}
+use Prim.Native.Nat.{ℕ, zero, suc, _+_, _^_, _<_, _≤_}
 use mathlib.Core.Path.{_≡_, refl, sym, ap, ap₂, _∙_}
 use mathlib.Core.Bool.{true}
 use mathlib.Core.List.{List, [], _∷_, _++_, append-assoc, append-nil}
@@ -7,15 +7,15 @@ use native.Mathlib.Nat.{add-zero}
 use native.Mathlib.Omega.{arith}
 use borrow.Author.Tests.{lt-ltb}
 use lib.IntN.{ℤ, pos, negsuc, natAbs}
-use lib.ListN.{length, length-append}
+use lib.ListN.{length, take, drop, length-append}
 use lib.Signed.{leZ}
 use lib.Seq.{drop-at}
-use Rattle.whole.proofs.Truth.{both, and}
+use Rattle.whole.proofs.Truth.{never, both, and}
 use Rattle.whole.specs.Numbers.{inside}
 use Rattle.whole.proofs.Parts.{zs, inside-yes}
 use Rattle.settings.specs.declared.table.Row.{Row}
 use Rattle.settings.specs.Table.{inRow}
-use Rattle.settings.specs.Settings.{allIn, settingsOf, filled}
+use Rattle.settings.specs.Settings.{allIn, settingsOf, completed, filled}
 use Rattle.settings.proofs.Lists.{all}
 use Rattle.settings.proofs.Ranges.{all-append}
 use Rattle.word.specs.Decimal.{isDecimal, numberOf, decimal}
@@ -101,34 +101,34 @@ line-back r s e =
 -- ---- the lines
 
 -- what is written for values in their ranges is read as those values, whatever rows and bytes follow
-pub lines-read : (k : ℕ) (rs more : List Row) (n : ℕ) (before vs : List ℤ) (s : List ℕ) → all lined rs ≡ true → allIn rs vs ≡ true → length vs ≡ length rs →
-    readFrom k (rs ++ more) n before (linesOf rs vs ++ s) ≡ readFrom k more (n + length rs) (before ++ vs) s
-lines-read k [] more n before [] s l i h = rw (append-nil before, add-zero n)
-lines-read k [] more n before (z ∷ vs) s l i h = absurd (omega arith)
-lines-read k (r ∷ rs) more n before [] s l i h = absurd (omega arith)
-lines-read k (r ∷ rs) more n before (z ∷ vs) s l i h =
+pub lines-read : (h k : ℕ) (rs more : List Row) (n : ℕ) (before vs : List ℤ) (s : List ℕ) → all lined rs ≡ true → allIn rs vs ≡ true → length vs ≡ length rs →
+    readFrom h k (rs ++ more) n before (linesOf rs vs ++ s) ≡ readFrom h k more (n + length rs) (before ++ vs) s
+lines-read h k [] more n before [] s l i e = rw (append-nil before, add-zero n)
+lines-read h k [] more n before (z ∷ vs) s l i e = absurd (omega arith)
+lines-read h k (r ∷ rs) more n before [] s l i e = absurd (omega arith)
+lines-read h k (r ∷ rs) more n before (z ∷ vs) s l i e =
     let p = both (lined r) (all lined rs) l in
     let q = both (inRow r z) (allIn rs vs) i in
     let rest = linesOf rs vs ++ s in
     let b = line-read r z rest (p .0) (q .0) in
     let m : n + 1 + length rs ≡ n + suc (length rs) = omega arith in
     rw (append-assoc (lineOf r z) (linesOf rs vs) s)
-    (line-taken k n before (lineOf r z ++ rest) r (rs ++ more) (b .code)
-    ∙ ap₂ (λ (x : ℤ) (t : List ℕ). readFrom k (rs ++ more) (n + 1) (before ++ (x ∷ [])) t) (b .value) (b .after)
-    ∙ lines-read k rs more (n + 1) (before ++ (z ∷ [])) vs s (p .1) (q .1) (omega arith)
-    ∙ ap₂ (λ (j : ℕ) (x : List ℤ). readFrom k more j x s) m (append-assoc before (z ∷ []) vs))
+    (line-taken h k n before (lineOf r z ++ rest) r (rs ++ more) (b .code)
+    ∙ ap₂ (λ (x : ℤ) (t : List ℕ). readFrom h k (rs ++ more) (n + 1) (before ++ (x ∷ [])) t) (b .value) (b .after)
+    ∙ lines-read h k rs more (n + 1) (before ++ (z ∷ [])) vs s (p .1) (q .1) (omega arith)
+    ∙ ap₂ (λ (j : ℕ) (x : List ℤ). readFrom h k more j x s) m (append-assoc before (z ∷ []) vs))
 
--- and so many lines stand before what follows
-pub lines-after : (rs : List Row) (vs : List ℤ) (s : List ℕ) → all lined rs ≡ true → allIn rs vs ≡ true → length vs ≡ length rs →
-    afterLines (length rs) (linesOf rs vs ++ s) ≡ s
-lines-after [] [] s l i h = refl
-lines-after [] (z ∷ vs) s l i h = absurd (omega arith)
-lines-after (r ∷ rs) [] s l i h = absurd (omega arith)
-lines-after (r ∷ rs) (z ∷ vs) s l i h =
+-- what stands after the first n of them
+pub lines-past : (n : ℕ) (rs : List Row) (vs : List ℤ) (s : List ℕ) → all lined rs ≡ true → allIn rs vs ≡ true → n ≤ length rs →
+    afterLines n (linesOf rs vs ++ s) ≡ linesOf (drop n rs) (drop n vs) ++ s
+lines-past zero rs vs s l i m = refl
+lines-past (suc n) [] vs s l i m = absurd (omega arith)
+lines-past (suc n) (r ∷ rs) [] s l i m = never i
+lines-past (suc n) (r ∷ rs) (z ∷ vs) s l i m =
     let p = both (lined r) (all lined rs) l in
     let q = both (inRow r z) (allIn rs vs) i in
     rw (append-assoc (lineOf r z) (linesOf rs vs) s)
-    (ap (afterLines (length rs)) (line-read r z (linesOf rs vs ++ s) (p .0) (q .0) .after) ∙ lines-after rs vs s (p .1) (q .1) (omega arith))
+    (ap (afterLines n) (line-read r z (linesOf rs vs ++ s) (p .0) (q .0) .after) ∙ lines-past n rs vs s (p .1) (q .1) (omega arith))
 
 -- the values of a text's lines
 abbrev pub valuesIn : List Row → List ℕ → List ℤ
@@ -136,36 +136,40 @@ valuesIn [] s = []
 valuesIn (r ∷ rs) s = lineValue r s ∷ valuesIn rs (afterLine s)
 
 -- a text that is accepted is what is written for its values, which lie in their ranges
-pub record Taken (k : ℕ) (rs : List Row) (n : ℕ) (before : List ℤ) (s : List ℕ) : Type 0 where
+pub record Taken (h k : ℕ) (rs : List Row) (n : ℕ) (before : List ℤ) (s : List ℕ) : Type 0 where
   pub same : s ≡ linesOf rs (valuesIn rs s)
   pub within : allIn rs (valuesIn rs s) ≡ true
-  pub end : readFrom k rs n before s ≡ readEnd (filled k (settingsOf (before ++ valuesIn rs s))) 0
+  pub end : readFrom h k rs n before s ≡ readEnd (filled k (settingsOf (completed h (before ++ valuesIn rs s)))) 0
 
-pub lines-back : (k : ℕ) (rs : List Row) (n : ℕ) (before : List ℤ) (s : List ℕ) → readFrom k rs n before s .code ≡ 0 → Taken k rs n before s
-lines-back k [] n before [] e =
-    record { same = refl; within = refl; end = ap (λ (x : List ℤ). readEnd (filled k (settingsOf x)) 0) (sym (append-nil before)) }
-lines-back k [] n before (b ∷ s) e = absurd (omega (arith, end-yes (filled k (settingsOf before)) (suc (length s)) e .none))
-lines-back k (r ∷ rs) n before s e =
-    let z = first-taken k n before s r rs e in
-    let t = line-taken k n before s r rs z in
-    let w = lines-back k rs (n + 1) (before ++ (lineValue r s ∷ [])) (afterLine s) (sym (ap (λ (x : Reading). x .code) t) ∙ e) in
+pub lines-back : (h k : ℕ) (rs : List Row) (n : ℕ) (before : List ℤ) (s : List ℕ) → readFrom h k rs n before s .code ≡ 0 → Taken h k rs n before s
+lines-back h k [] n before [] e =
+    record { same = refl; within = refl; end = ap (λ (x : List ℤ). readEnd (filled k (settingsOf (completed h x))) 0) (sym (append-nil before)) }
+lines-back h k [] n before (b ∷ s) e = absurd (omega (arith, end-yes (filled k (settingsOf (completed h before))) (suc (length s)) e .none))
+lines-back h k (r ∷ rs) n before s e =
+    let z = first-taken h k n before s r rs e in
+    let t = line-taken h k n before s r rs z in
+    let w = lines-back h k rs (n + 1) (before ++ (lineValue r s ∷ [])) (afterLine s) (sym (ap (λ (x : Reading). x .code) t) ∙ e) in
     record {
       same = line-back r s z ∙ ap (λ (x : List ℕ). lineOf r (lineValue r s) ++ x) (w .same);
       within = and (line-yes r s z .range) (w .within);
-      end = t ∙ w .end ∙ ap (λ (x : List ℤ). readEnd (filled k (settingsOf x)) 0) (append-assoc before (lineValue r s ∷ []) (valuesIn rs (afterLine s)));
+      end = t ∙ w .end ∙ ap (λ (x : List ℤ). readEnd (filled k (settingsOf (completed h x))) 0) (append-assoc before (lineValue r s ∷ []) (valuesIn rs (afterLine s)));
     }
 
 pub valued : (rs : List Row) (s : List ℕ) → length (valuesIn rs s) ≡ length rs
 valued [] s = refl
 valued (r ∷ rs) s = ap suc (valued rs (afterLine s))
 
--- the lines of the first values, and of the others
-pub lines-both : (rs qs : List Row) (vs ws : List ℤ) → length vs ≡ length rs → linesOf (rs ++ qs) (vs ++ ws) ≡ linesOf rs vs ++ linesOf qs ws
-lines-both [] qs [] ws h = refl
-lines-both [] qs (z ∷ vs) ws h = absurd (omega arith)
-lines-both (r ∷ rs) qs [] ws h = absurd (omega arith)
-lines-both (r ∷ rs) qs (z ∷ vs) ws h =
-    ap (λ (x : List ℕ). lineOf r z ++ x) (lines-both rs qs vs ws (omega arith)) ∙ sym (append-assoc (lineOf r z) (linesOf rs vs) (linesOf qs ws))
+-- the first n lines, and the others
+lines-none : (rs : List Row) → linesOf rs [] ≡ []
+lines-none [] = refl
+lines-none (r ∷ rs) = refl
+
+pub lines-split : (n : ℕ) (rs : List Row) (vs : List ℤ) → linesOf rs vs ≡ linesOf (take n rs) (take n vs) ++ linesOf (drop n rs) (drop n vs)
+lines-split zero rs vs = refl
+lines-split (suc n) [] vs = refl
+lines-split (suc n) (r ∷ rs) [] = sym (lines-none (drop n rs))
+lines-split (suc n) (r ∷ rs) (z ∷ vs) =
+    ap (λ (x : List ℕ). lineOf r z ++ x) (lines-split n rs vs) ∙ sym (append-assoc (lineOf r z) (linesOf (take n rs) (take n vs)) (linesOf (drop n rs) (drop n vs)))
 
 -- values that have no row count for nothing
 pub lines-front : (rs : List Row) (vs ws : List ℤ) → length vs ≡ length rs → linesOf rs (vs ++ ws) ≡ linesOf rs vs

@@ -14,16 +14,16 @@ use mir.Val.{SFits}
 use Rattle.whole.proofs.Truth.{zero-if, zero-else, zero-then}
 use Rattle.settings.specs.declared.table.Row.{Row}
 use Rattle.settings.specs.declared.Settings.{Settings}
-use Rattle.settings.specs.Table.{longestKey, shortSets}
+use Rattle.settings.specs.Table.{longestKey, sets as every}
 use Rattle.settings.specs.Settings.{inTable, ordered, settingsRefusal}
 use Rattle.word.specs.Decimal.{decimalRoom}
 use Rattle.word.specs.End.{feed}
 use Rattle.word.proofs.Shows.{decimal-room}
 use Rattle.word.proofs.Stores.{sets-append}
 use Rattle.text.specs.declared.writer.Written.{Written}
-use Rattle.text.specs.Lines.{lineOf, textFor, textOf, longestText, longestShort}
+use Rattle.text.specs.Lines.{lineOf, Headed, Gained, textFor, textOf, longestFor}
 use Rattle.text.specs.Writer.{writeCode, writtenOf, bufferAfter}
-use Rattle.text.proofs.Longest.{text-long, short-long}
+use Rattle.text.proofs.Longest.{text-long}
 
 -- ---- a line
 
@@ -76,11 +76,8 @@ sound s e =
     let t = zero-if (inTable s) (cond (ordered s) 0 16) 10 e in
     record { within = t .0; order = zero-then (ordered s) 15 (t .1) }
 
-pub sound-long : (s : Settings) → settingsRefusal s ≡ 0 → length (textOf s) ≤ longestText
-sound-long s e = let t = sound s e in text-long s (t .within) (t .order)
-
-pub sound-short : (s : Settings) → settingsRefusal s ≡ 0 → length (textFor shortSets s) ≤ longestShort
-sound-short s e = let t = sound s e in short-long s (t .within) (t .order)
+pub sound-long : (h n : ℕ) (s : Settings) → Headed h → Gained n → length (s .gains) ≡ every → settingsRefusal s ≡ 0 → length (textFor h n s) ≤ longestFor h n
+sound-long h n s a b g e = let t = sound s e in text-long h n s a b g (t .within) (t .order)
 
 -- ---- a code that is 0: nothing is wrong with the settings, and the text fits
 pub record Wrote (s : Settings) (buffer : List ℕ) : Type 0 where

@@ -1,12 +1,14 @@
--- 01, "Settings text", with 02's request 5: the text that settings have.
-use Prim.Native.Nat.{ℕ}
+-- 01, "Settings text", with 02's requests 5 and 7: the text that settings have.
+use Prim.Native.Nat.{ℕ, _+_, _-_, _*_}
+use mathlib.Core.Bool.{cond}
 use mathlib.Core.List.{List, [], _∷_, _++_}
+use lib.Dec.{eqb}
 use lib.IntN.{ℤ}
 use lib.ListN.{take}
 use Rattle.whole.specs.Words.{bytes}
 use Rattle.settings.specs.declared.table.Row.{Row}
 use Rattle.settings.specs.declared.Settings.{Settings}
-use Rattle.settings.specs.Table.{sets, rowsOf}
+use Rattle.settings.specs.Table.{firsts, heads, sets, shortSets, rowsOf, picked}
 use Rattle.settings.specs.Settings.{valuesOf}
 use Rattle.word.specs.Decimal.{decimal}
 
@@ -24,18 +26,30 @@ linesOf [] vs = []
 linesOf (r ∷ rs) [] = []
 linesOf (r ∷ rs) (z ∷ vs) = lineOf r z ++ linesOf rs vs
 
--- the lines of the first n gain sets, and those before them
-unfoldable pub textFor : ℕ → Settings → List ℕ
-textFor n s = linesOf (rowsOf n) (valuesOf s)
+-- ---- the text in each of its forms
 
--- "Writing always gives 86 lines": those of all sets
+-- how many rows before the gain sets a text may have: all, or those before mean
+pub data Headed : ℕ → Type 0 where
+  with-mean : Headed heads
+  no-mean : Headed firsts
+
+-- and how many gain sets: all, or those of "a text that ends after 26 lines"
+pub data Gained : ℕ → Type 0 where
+  full : Gained sets
+  short : Gained shortSets
+
+-- the lines of the first h rows before the gain sets, and of the first n sets
+unfoldable pub textFor : ℕ → ℕ → Settings → List ℕ
+textFor h n s = linesOf (picked h (rowsOf n)) (picked h (valuesOf s))
+
+-- "Writing always gives 86 lines", and mean: "The writer always gives it"
 abbrev pub textOf : Settings → List ℕ
-textOf s = textFor sets s
+textOf s = textFor heads sets s
 
--- "the text has 86 lines, 1,044 bytes at most"
+-- 01's "The longest text has 306 bytes", which is that of 26 lines, and "86 lines, 1,044 bytes at most"; `mean=128` and its line
+-- feed are 9 more
+abbrev pub longestFor : ℕ → ℕ → ℕ
+longestFor h n = cond (eqb n sets) 1044 306 + 9 * (h - firsts)
+
 abbrev pub longestText : ℕ
-longestText = 1044
-
--- 01's "The longest text has 306 bytes", which is that of 26 lines
-abbrev pub longestShort : ℕ
-longestShort = 306
+longestText = longestFor heads sets

@@ -1,14 +1,15 @@
--- 01, "Settings text", with 02's request 5: what a text is read as.
+-- 01, "Settings text", with 02's requests 5 and 7: what a text is read as.
 use Prim.Native.Nat.{ℕ, zero, suc, _+_}
 use mathlib.Core.Bool.{Bool, cond, _&&_}
 use mathlib.Core.List.{List, [], _∷_, _++_}
 use lib.Dec.{ltb, eqb}
 use lib.IntN.{ℤ, pos}
 use lib.ListN.{length, take, drop}
+use Rattle.whole.specs.Words.{bytes}
 use Rattle.settings.specs.declared.table.Row.{Row}
 use Rattle.settings.specs.declared.Settings.{Settings}
-use Rattle.settings.specs.Table.{sets, shortSets, shortLines, rowsOf, inRow}
-use Rattle.settings.specs.Settings.{settingsOf, filled, blankSettings, ordered}
+use Rattle.settings.specs.Table.{firsts, heads, sets, shortSets, linesFor, rowsOf, picked, inRow}
+use Rattle.settings.specs.Settings.{settingsOf, completed, filled, blankSettings, ordered}
 use Rattle.word.specs.declared.decimal.Decimal.{Decimal}
 use Rattle.word.specs.declared.decimal.Decimal.the-variants.{Is, Wrong}
 use Rattle.word.specs.Decimal.{isDecimal, numberOf}
@@ -70,21 +71,28 @@ readEnd x left =
     (cond (ordered x) (record { code = 0; line = 0; settings = x }) (refused 16 0))
 
 -- "Lines count from 1 and are tested in order": line n is that of the first row, and vs are the values before it; the text has
--- the lines of k gain sets
-abbrev pub readFrom : ℕ → List Row → ℕ → List ℤ → List ℕ → Reading
-readFrom k [] n vs s = readEnd (filled k (settingsOf vs)) (length s)
-readFrom k (r ∷ rs) n vs s =
-    cond (eqb (lineCode r s) 0) (readFrom k rs (n + 1) (vs ++ (lineValue r s ∷ [])) (afterLine s)) (refused (lineCode r s) n)
+-- the lines of h rows before the gain sets, and of k sets
+abbrev pub readFrom : ℕ → ℕ → List Row → ℕ → List ℤ → List ℕ → Reading
+readFrom h k [] n vs s = readEnd (filled k (settingsOf (completed h vs))) (length s)
+readFrom h k (r ∷ rs) n vs s =
+    cond (eqb (lineCode r s) 0) (readFrom h k rs (n + 1) (vs ++ (lineValue r s ∷ [])) (afterLine s)) (refused (lineCode r s) n)
 
 -- what stands after n lines
 abbrev pub afterLines : ℕ → List ℕ → List ℕ
 afterLines zero s = s
 afterLines (suc n) s = afterLines n (afterLine s)
 
--- "A text that ends after 26 lines is still read"; where bytes stand after them, they "go on as line 27": the gain sets whose
--- lines the text is to have
-unfoldable pub setsIn : List ℕ → ℕ
-setsIn s = cond (ltb 0 (length (afterLines shortLines s))) sets shortSets
+-- "a text whose line after rate begins with kp0" has no mean: the rows before the gain sets whose lines the text is to have
+unfoldable pub headsIn : List ℕ → ℕ
+headsIn s = cond (begins (bytes "kp0") (afterLines firsts s)) firsts heads
+
+-- "A text that ends after 26 lines is still read"; where bytes stand after them, they "go on as line 27", and with mean these "are
+-- one more": the gain sets whose lines the text is to have
+unfoldable pub setsIn : ℕ → List ℕ → ℕ
+setsIn h s = cond (ltb 0 (length (afterLines (linesFor h shortSets) s))) sets shortSets
 
 unfoldable pub readText : List ℕ → Reading
-readText s = readFrom (setsIn s) (rowsOf (setsIn s)) 1 [] s
+readText s =
+    let h = headsIn s in
+    let k = setsIn h s in
+    readFrom h k (picked h (rowsOf k)) 1 [] s

@@ -1,9 +1,9 @@
 // The settings' reader.
 ghost use mathlib.Core.Path.{_≡_};
 ghost use Prim.Native.Nat.{_≤_};
-ghost use Rattle.settings.specs.Table.{longestKey};
+ghost use Rattle.settings.specs.Table.{longestKey, heads, lines, placeOf};
 ghost use Rattle.word.specs.End.{endAt, feed};
-ghost use Rattle.text.specs.Reader.{valueIn, lineRead, refused, readEnd, afterLines, setsIn, readText};
+ghost use Rattle.text.specs.Reader.{valueIn, lineRead, refused, readEnd, afterLines, headsIn, setsIn, readText};
 use settings::Settings;
 use settings::table::Row;
 use word::decimal::Decimal;
@@ -19,9 +19,6 @@ pub struct Reading {
 
 // "A text that ends after 26 lines is still read": the gain sets whose lines it has.
 const SHORT_SETS: usize = 4;
-
-// The lines of such a text.
-const SHORT_LINES: usize = Settings::HEAD + Settings::KEYS * SHORT_SETS;
 
 // What a line is read as: code 14, 15 or 0, and its value where that is 0.
 struct Line {
@@ -111,35 +108,61 @@ fn after_lines(text: &[u8], n: usize) -> &[u8]
     rest
 }
 
-// The gain sets whose lines a text is to have: four where it ends after line 26 or before, else all.
-fn sets_in(text: &[u8]) -> usize
-    ensures { λ r. ⌜ r ≡ setsIn (now (text .entry)) ⌝ }
+// The rows before the gain sets whose lines a text is to have: "a text whose line after rate begins with kp0" has no mean.
+fn heads_in(text: &[u8]) -> usize
+    ensures { λ r. ⌜ r ≡ headsIn (now (text .entry)) ⌝ }
 {
-    let left = after_lines(text, SHORT_LINES);
+    let line = after_lines(text, Settings::FIRST);
+    if begins(b"kp0", line) {
+        return Settings::FIRST;
+    }
+    Settings::HEAD
+}
+
+// The gain sets whose lines a text is to have, with h rows before them: four where it ends after those of set 3 or before, else
+// all.
+fn sets_in(h: usize, text: &[u8]) -> usize
+    requires { ⌜ h ≤ heads ⌝ }
+    ensures { λ r. ⌜ r ≡ setsIn h (now (text .entry)) ⌝ }
+{
+    let left = after_lines(text, h + Settings::KEYS * SHORT_SETS);
     if 0 < left.len() {
         return Settings::SETS;
     }
     SHORT_SETS
 }
 
+// The place of line i among all rows, in a text with h rows before the gain sets; lines and rows are counted from 0.
+fn place(h: usize, i: usize) -> usize
+    requires { ⌜ (h ≤ heads) × (i ≤ lines) ⌝ }
+    ensures { λ r. ⌜ r ≡ placeOf h i ⌝ }
+{
+    if i < h {
+        return i;
+    }
+    i + (Settings::HEAD - h)
+}
+
 // Reads a settings text. "Lines count from 1 and are tested in order."
 pub fn read_settings(text: &[u8]) -> Reading
     ensures { λ r. ⌜ r ≡ readText (now (text .entry)) ⌝ }
 {
-    let sets = sets_in(text);
-    let lines = Settings::HEAD + Settings::KEYS * sets;
-    let mut values = [0i32; Settings::LINES];
+    let h = heads_in(text);
+    let sets = sets_in(h, text);
+    let lines = h + Settings::KEYS * sets;
+    let mut values = Settings::unread();
     let mut rest = text;
     let mut i: usize = 0;
     while i < lines {
         let end = end_at(rest, b'\n');
-        let line = read_line(Row::at(i), rest, end);
+        let at = place(h, i);
+        let line = read_line(Row::at(at), rest, end);
         let code = line.code;
         if code != 0 {
             return refused(code, i + 1);
         }
         let value = line.value;
-        values[i] = value;
+        values[at] = value;
         rest = &rest[end + 1..];
         i += 1;
     }

@@ -12,7 +12,8 @@ use word::number;
 
 // ---- texts that are put together
 
-// The whole text of settings C, whose sets 4 to 15 are set 0.
+// The text of settings C, whose sets 4 to 15 are set 0, without the line mean. Its first 26 lines are "Settings C, whole" in the
+// first paper.
 const C: [u8; 800] = *b"action=0\nlo=0\nhi=1000\nout=100\nsp=500\nrate=50\n\
       kp0=65536\nki0=16384\nkd0=0\nalpha0=65536\nkt0=0\n\
       kp1=131072\nki1=16384\nkd1=65536\nalpha1=32768\nkt1=0\n\
@@ -31,10 +32,7 @@ const C: [u8; 800] = *b"action=0\nlo=0\nhi=1000\nout=100\nsp=500\nrate=50\n\
       kp14=65536\nki14=16384\nkd14=0\nalpha14=65536\nkt14=0\n\
       kp15=65536\nki15=16384\nkd15=0\nalpha15=65536\nkt15=0\n";
 
-// Its first 26 lines: "Settings C, whole" in the first paper.
-const SHORT_C: usize = 230;
-
-// The longest text.
+// The longest text without the line mean.
 const LONGEST: [u8; 1044] =
     *b"action=1\nlo=-1000000\nhi=1000000\nout=-1000000\nsp=-1000000\nrate=2000000\n\
       kp0=4194304\nki0=4194304\nkd0=4194304\nalpha0=65536\nkt0=65536\n\
@@ -53,9 +51,6 @@ const LONGEST: [u8; 1044] =
       kp13=4194304\nki13=4194304\nkd13=4194304\nalpha13=65536\nkt13=65536\n\
       kp14=4194304\nki14=4194304\nkd14=4194304\nalpha14=65536\nkt14=65536\n\
       kp15=4194304\nki15=4194304\nkd15=4194304\nalpha15=65536\nkt15=65536\n";
-
-// Its first 26 lines.
-const SHORT_LONGEST: usize = 306;
 
 // Room for any text of these cases.
 const ROOM: usize = 1100;
@@ -115,24 +110,6 @@ impl Made {
         false
     }
 
-    // Settings C: all of its text, or its first 26 lines.
-    fn c(short: bool) -> Made {
-        let c = C;
-        if short {
-            return Made::empty().with(&c[..SHORT_C]);
-        }
-        Made::empty().with(&c)
-    }
-
-    // The longest text, or its first 26 lines.
-    fn longest(short: bool) -> Made {
-        let longest = LONGEST;
-        if short {
-            return Made::empty().with(&longest[..SHORT_LONGEST]);
-        }
-        Made::empty().with(&longest)
-    }
-
     // A text up to line n, and then other bytes.
     fn before(text: &[u8], n: usize, new: &[u8]) -> Made {
         let a = start_of(text, b'\n', n);
@@ -147,25 +124,53 @@ impl Made {
         Made::before(text, n, new).with(&rest[z..])
     }
 
-    // Settings C, short or not, with other bytes in the place of line n; or, where cut, up to line n, and then other bytes.
-    fn case(short: bool, cut: bool, n: usize, new: &[u8]) -> Made {
-        let c = C;
+    // The text with other bytes in the place of line n; or, where cut, up to line n, and then other bytes.
+    fn case(self, cut: bool, n: usize, new: &[u8]) -> Made {
+        let bytes = self.bytes;
+        let len = self.len;
+        if ROOM < len {
+            return Made::empty();
+        }
+        let text = &bytes[0..len];
         if cut {
-            return Made::before(&c, n, new);
+            return Made::before(text, n, new);
         }
-        if short {
-            return Made::changed(&c[..SHORT_C], n, new);
-        }
-        Made::changed(&c, n, new)
+        Made::changed(text, n, new)
     }
 
-    // The longest text, short or not, with hi = lo.
-    fn level(short: bool) -> Made {
-        let longest = LONGEST;
+    // A text without the line mean, with other bytes after rate; where short, up to the last line of gain set 3.
+    fn form(text: &[u8], mean: &[u8], short: bool) -> Made {
+        let a = start_of(text, b'\n', 7);
+        let head = Made::empty().with(&text[0..a]).with(mean);
+        let sets = &text[a..];
         if short {
-            return Made::changed(&longest[..SHORT_LONGEST], 3, b"hi=-1000000\n");
+            let z = start_of(sets, b'\n', 21);
+            return head.with(&sets[0..z]);
         }
-        Made::changed(&longest, 3, b"hi=-1000000\n")
+        head.with(sets)
+    }
+
+    // Settings C, with mean or not, short or not.
+    fn c(mean: bool, short: bool) -> Made {
+        let c = C;
+        if mean {
+            return Made::form(&c, b"mean=1\n", short);
+        }
+        Made::form(&c, b"", short)
+    }
+
+    // The longest text with mean or not, short or not.
+    fn longest(mean: bool, short: bool) -> Made {
+        let longest = LONGEST;
+        if mean {
+            return Made::form(&longest, b"mean=128\n", short);
+        }
+        Made::form(&longest, b"", short)
+    }
+
+    // The same with hi = lo.
+    fn level(mean: bool, short: bool) -> Made {
+        Made::longest(mean, short).case(false, 3, b"hi=-1000000\n")
     }
 }
 
@@ -222,15 +227,15 @@ fn number(word: &[u8]) -> usize {
     (word[0] % 48) as usize * 10 + (word[1] % 48) as usize
 }
 
-// Reads, for each case, settings C, short or not, with the case's bytes in the place of its line; or, where cut, C up to that
-// line and then the case's bytes.
-fn cases(short: bool, cut: bool, list: &[u8]) {
+// Reads, for each case, the text with the case's bytes in the place of its line; or, where cut, the text up to that line and then
+// the case's bytes.
+fn cases(text: Made, cut: bool, list: &[u8]) {
     let mut rest = list;
     while 0 < rest.len() {
         let line = after(rest);
         let bytes = after(line);
         let n = number(field(line));
-        read_made(field(rest), Made::case(short, cut, n, field(bytes)));
+        read_made(field(rest), text.case(cut, n, field(bytes)));
         let next = after(bytes);
         if rest.len() <= next.len() {
             return;
@@ -245,7 +250,7 @@ fn early() {
     read(b"one-line-feed", b"\n");
     read(b"one-byte", b"a");
     cases(
-        true,
+        Made::c(false, true),
         true,
         b"stops-after-line-5|06||\
           stops-after-line-1|02||\
@@ -256,7 +261,7 @@ fn early() {
           stops-after-a-value|06|rate=50|",
     );
     cases(
-        true,
+        Made::c(false, true),
         false,
         b"no-last-line-feed|26|kt3=0|\
           no-last-line-feed-and-too-large|26|kt3=9999999|",
@@ -266,7 +271,7 @@ fn early() {
 // Lines of wrong form: 14.
 fn forms() {
     cases(
-        true,
+        Made::c(false, true),
         false,
         b"crlf|01|action=0\r\n|\
           crlf-on-the-last-line|26|kt3=0\r\n|\
@@ -294,7 +299,7 @@ fn forms() {
 // Values of wrong form: 14.
 fn values() {
     cases(
-        true,
+        Made::c(false, true),
         false,
         b"no-value|03|hi=\n|\
           minus-alone|03|hi=-\n|\
@@ -320,7 +325,7 @@ fn values() {
 // Values outside their ranges: 15; and at the ends of their ranges: 0.
 fn ranges() {
     cases(
-        true,
+        Made::c(false, true),
         false,
         b"seven-digits-too-large|03|hi=9999999\n|\
           seven-digits-too-small|02|lo=-9999999\n|\
@@ -351,14 +356,14 @@ fn ranges() {
 // The order of the tests: lines in order, 14 before 15 in each, then 17, then 16.
 fn orders() {
     cases(
-        true,
+        Made::c(false, true),
         true,
         b"15-on-line-2-14-on-line-3|02|lo=9999999\nhi=\n|\
           14-on-line-2-15-on-line-3|02|lo=\nhi=9999999\n|\
           keys-in-another-order|02|hi=1000\nlo=0\nout=100\n|",
     );
     cases(
-        true,
+        Made::c(false, true),
         false,
         b"too-large-and-a-space|03|hi=9999999 \n|\
           a-line-twice|07|kp0=65536\nkp0=65536\n|\
@@ -380,15 +385,15 @@ fn orders() {
     );
     read_made(
         b"lo-is-hi-and-a-byte",
-        Made::case(true, false, 3, b"hi=0\n").with(b"x"),
+        Made::c(false, true).case(false, 3, b"hi=0\n").with(b"x"),
     );
 }
 
 // "86 lines": each line after 26 is tested as those before it are.
 fn long_forms() {
-    read_made(b"86-lines", Made::c(false));
+    read_made(b"86-lines", Made::c(false, false));
     cases(
-        false,
+        Made::c(false, false),
         true,
         b"stops-after-line-26|27||\
           stops-after-line-27|28||\
@@ -398,7 +403,7 @@ fn long_forms() {
           stops-in-line-86|86|kt15=0|",
     );
     cases(
-        false,
+        Made::c(false, false),
         false,
         b"line-27-left-out|27||\
           key-of-set-0-on-line-27|27|kp0=65536\n|\
@@ -416,17 +421,92 @@ fn long_forms() {
     );
 }
 
-// 1,044 bytes are accepted, 1,045 have lo = hi, and a byte more comes before that. So too 306 and 307 of 26 lines, but that a
-// byte more is line 27.
+// The line mean, which "follows rate".
+fn means() {
+    cases(
+        Made::c(true, true),
+        false,
+        b"mean-1|07|mean=1\n|\
+          mean-128|07|mean=128\n|\
+          mean-0|07|mean=0\n|\
+          mean-129|07|mean=129\n|\
+          mean-minus-1|07|mean=-1\n|\
+          no-mean-value|07|mean=\n|\
+          mean-leading-zero|07|mean=01\n|\
+          mean-0-and-a-wrong-line|07|mean=0\nx\n|\
+          mean-twice|07|mean=1\nmean=1\n|\
+          jump-on-line-7|07|jump=5\n|\
+          kp-on-line-7|07|kp=1\n|\
+          kp1-on-line-7|07|kp1=1\n|\
+          mean-left-out|07||\
+          key-of-set-1-after-mean|08|kp1=65536\n|",
+    );
+    cases(
+        Made::c(false, true),
+        false,
+        b"kp00-on-line-7|07|kp00=1\n|\
+          kp0-alone-on-line-7|07|kp0\n|\
+          mean-before-rate|06|mean=1\nrate=50\n|\
+          mean-after-kp0|07|kp0=65536\nmean=1\n|\
+          mean-after-line-26|27|mean=1\n|",
+    );
+}
+
+// "with the line request 5's 26 and 27 are one more"
+fn mean_forms() {
+    read_made(b"27-lines-with-mean", Made::c(true, true));
+    cases(
+        Made::c(true, false),
+        true,
+        b"stops-after-line-6|07||\
+          stops-in-mean|07|mean=1|\
+          stops-after-mean|08||\
+          stops-after-line-26-with-mean|27||\
+          stops-after-line-27-with-mean|28||\
+          stops-after-line-28-with-mean|29||\
+          stops-after-line-86-with-mean|87||",
+    );
+    cases(
+        Made::c(true, true),
+        false,
+        b"a-byte-after-line-27|28|x|\
+          line-28-too-large|28|kp4=4194305\n|\
+          a-good-line-28|28|kp4=0\n|\
+          mean-again-after-line-27|28|mean=1\n|\
+          lo-is-hi-in-27-lines|03|hi=0\n|",
+    );
+    read_made(
+        b"lo-is-hi-in-27-lines-and-a-byte",
+        Made::c(true, true).case(false, 3, b"hi=0\n").with(b"x"),
+    );
+    cases(
+        Made::c(true, false),
+        false,
+        b"kt15-65537-with-mean|87|kt15=65537\n|\
+          a-byte-after-line-87|87|kt15=0\nx|",
+    );
+}
+
+// 1,053 bytes are accepted, 1,054 have lo = hi, and a byte more comes before that; so too 1,044 and 1,045 without mean.
 fn lengths() {
     let many = [b'a'; 4096];
-    read_made(b"1044-bytes", Made::longest(false));
-    read_made(b"1045-bytes", Made::level(false));
-    read_made(b"1046-bytes", Made::level(false).with(b"x"));
-    read_made(b"306-bytes", Made::longest(true));
-    read_made(b"307-bytes", Made::level(true));
-    read_made(b"308-bytes", Made::level(true).with(b"x"));
     read(b"4096-bytes-and-no-line-feed", &many);
+    read_made(b"1053-bytes", Made::longest(true, false));
+    read_made(b"1054-bytes", Made::level(true, false));
+    read_made(b"1055-bytes", Made::level(true, false).with(b"x"));
+    read_made(b"1044-bytes", Made::longest(false, false));
+    read_made(b"1045-bytes", Made::level(false, false));
+    read_made(b"1046-bytes", Made::level(false, false).with(b"x"));
+}
+
+// 315 and 316 of 27 lines, and 306 and 307 of 26, but that a byte more is the line after them.
+fn short_lengths() {
+    read_made(b"315-bytes", Made::longest(true, true));
+    read_made(b"316-bytes", Made::level(true, true));
+    read_made(b"317-bytes", Made::level(true, true).with(b"x"));
+    read_made(b"306-bytes", Made::longest(false, true));
+    read_made(b"307-bytes", Made::level(false, true));
+    read_made(b"308-bytes", Made::level(false, true).with(b"x"));
 }
 
 // ---- the writer
@@ -458,23 +538,23 @@ fn settings_of(made: Made) -> Settings {
     reading_of(made).settings
 }
 
-// 18 for a buffer shorter than the text; else the length, and every byte after the text stays.
+// 18 for a buffer shorter than the text; else the length, and every byte after the text stays. "The writer always gives" mean.
 fn rooms() {
-    let s = settings_of(Made::c(true));
-    let l = settings_of(Made::longest(false));
+    let s = settings_of(Made::c(false, true));
+    let l = settings_of(Made::longest(true, false));
     write(b"c-in-1100-bytes", s, ROOM);
-    write(b"c-in-800-bytes", s, 800);
-    write(b"c-in-799-bytes", s, 799);
+    write(b"c-in-807-bytes", s, 807);
+    write(b"c-in-806-bytes", s, 806);
     write(b"c-in-230-bytes", s, 230);
     write(b"c-in-0-bytes", s, 0);
     write(b"longest-in-1100-bytes", l, ROOM);
-    write(b"longest-in-1044-bytes", l, 1044);
-    write(b"longest-in-1043-bytes", l, 1043);
+    write(b"longest-in-1053-bytes", l, 1053);
+    write(b"longest-in-1052-bytes", l, 1052);
 }
 
 // 11, then 16, then 18.
 fn wrongs() {
-    let s = settings_of(Made::c(false));
+    let s = settings_of(Made::c(true, false));
     let mut high = s;
     high.hi = 1000001;
     let mut low = s;
@@ -485,6 +565,10 @@ fn wrongs() {
     out.out = 1001;
     let mut slow = equal;
     slow.rate = 0;
+    let mut none = equal;
+    none.mean = 0;
+    let mut wide = s;
+    wide.mean = 129;
     write(b"write-hi-1000001", high, ROOM);
     write(b"write-lo-least-of-32-bits", low, ROOM);
     write(b"write-lo-is-hi", equal, ROOM);
@@ -492,6 +576,8 @@ fn wrongs() {
     write(b"write-rate-0-and-lo-is-hi", slow, ROOM);
     write(b"write-rate-0-and-0-bytes", slow, 0);
     write(b"write-lo-is-hi-and-0-bytes", equal, 0);
+    write(b"write-mean-0-and-lo-is-hi", none, ROOM);
+    write(b"write-mean-129", wide, ROOM);
     write(b"write-blank", Settings::blank(), ROOM);
 }
 
@@ -526,25 +612,34 @@ fn beside(name: &[u8], made: Made) {
     say(name, r.code, n);
 }
 
+// Every form is written in full.
 fn trips() {
-    again(b"c-again", Made::c(false), Made::c(false));
-    again(b"short-c-again", Made::c(true), Made::c(false));
-    again(b"longest-again", Made::longest(false), Made::longest(false));
+    let c = Made::c(true, false);
+    again(b"c-again", c, c);
+    again(b"short-c-again", Made::c(true, true), c);
+    again(b"c-without-mean-again", Made::c(false, false), c);
+    again(b"short-c-without-mean-again", Made::c(false, true), c);
+}
+
+fn longest_trips() {
+    let longest = Made::longest(true, false);
+    let one = longest.case(false, 7, b"mean=1\n");
+    again(b"longest-again", longest, longest);
     again(
-        b"short-longest-again",
-        Made::longest(true),
-        Made::longest(false),
+        b"short-longest-without-mean-again",
+        Made::longest(false, true),
+        one,
     );
 }
 
 // "What stands beside the code is the blank."
 fn blanks() {
-    beside(b"values-of-c", Made::c(true));
-    beside(b"values-of-longest", Made::longest(false));
-    beside(b"values-beside-16", Made::level(false));
-    beside(b"values-beside-17", Made::level(false).with(b"x"));
-    beside(b"values-beside-16-in-26-lines", Made::level(true));
-    beside(b"values-beside-14", Made::level(true).with(b"x"));
+    beside(b"values-of-c", Made::c(false, true));
+    beside(b"values-of-longest", Made::longest(true, false));
+    beside(b"values-beside-16", Made::level(true, false));
+    beside(b"values-beside-17", Made::level(true, false).with(b"x"));
+    beside(b"values-beside-16-in-26-lines", Made::level(false, true));
+    beside(b"values-beside-14", Made::level(false, true).with(b"x"));
 }
 
 // ---- one decimal
@@ -606,10 +701,14 @@ fn main() {
     ranges();
     orders();
     long_forms();
+    means();
+    mean_forms();
     lengths();
+    short_lengths();
     rooms();
     wrongs();
     trips();
+    longest_trips();
     blanks();
     decimals();
     long_words();

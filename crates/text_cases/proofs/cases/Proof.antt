@@ -6,10 +6,10 @@ use Rattle.text_cases.proofs.cases.Statement.{statement}
 use Rattle.text_cases.proofs.cases.Tie as tie
 
 abbrev Inv-loop : tie.InvT-loop
-Inv-loop short cut list rest₀ rest = Unit {0}
+Inv-loop text cut list rest₀ rest = Unit {0}
 
 abbrev μ-loop : tie.MeasureT-loop
-μ-loop short cut list rest₀ rest = length rest
+μ-loop text cut list rest₀ rest = length rest
 
 loop-holds : tie.Need-loop-holds Inv-loop μ-loop
 loop-holds c = tt

@@ -4,6 +4,7 @@ use mathlib.Core.Path.{_≡_, refl, sym, ap, _∙_}
 use native.Mathlib.Nat.{zero-add}
 use native.Mathlib.Omega.{arith}
 use borrow.Author.Needs.{needs}
+use denote.Ref.{now}
 use lib.IntN.{pos}
 use lib.ListN.{length, drop, getD}
 use lib.Seq.{sets}
@@ -16,9 +17,9 @@ use Rattle.settings.proofs.Fit.{settings-fit}
 use Rattle.settings.proofs.Rows.{values-long}
 use Rattle.word.specs.Decimal.{decimalRoom}
 use Rattle.word.proofs.Stores.{rest-stored}
-use Rattle.text.specs.Lines.{lineOf, linesOf, textFor, textOf}
+use Rattle.text.specs.Lines.{lineOf, linesOf, textOf}
 use Rattle.text.proofs.Writes.{line-short}
-use Rattle.text.proofs.Rows.{key-short, lines-next, lines-end}
+use Rattle.text.proofs.Rows.{key-short, lines-next, lines-end, text-whole}
 use Rattle.text.proofs.writer.put_lines.Statement.{statement}
 use Rattle.text.proofs.writer.put_lines.Tie as tie
 
@@ -34,8 +35,10 @@ abbrev μ-loop : tie.MeasureT-loop
 μ-loop settings buffer₀ at₀ i₀ buffer at i = lines - i
 
 loop-holds : tie.Need-loop-holds Inv-loop μ-loop
-unfolding textFor
-loop-holds c = (omega arith, refl, omega arith, sym (zero-add (length (linesOf rows (valuesOf (c .before .args .settings))))), refl)
+loop-holds c =
+    let a = c .before .args in
+    let t = text-whole (a .settings) in
+    (omega arith, refl, omega arith, ap length t ∙ sym (zero-add (length (linesOf rows (valuesOf (a .settings))))), ap (sets (now (a .buffer)) 0) t)
 
 at-requires : tie.Need-at-requires Inv-loop μ-loop
 at-requires c κs = search needs
