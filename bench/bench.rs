@@ -3,7 +3,7 @@
 mod count;
 mod rewrite;
 
-use rewrite::{Loop, GAINS, ONCE, SETS, VALUES};
+use rewrite::{Loop, GAINS, MEAN, ONCE, SETS, VALUES};
 use std::arch::asm;
 use std::time::Instant;
 
@@ -15,9 +15,9 @@ const TARGET: i32 = 800;
 /// The sets of settings C that document 01 lists.
 const LISTED: usize = 4;
 
-/// Settings C of document 01, in the order of the text.
+/// Settings C of document 01 with mean 1, in the order of the text.
 const SHORT: [i32; ONCE + GAINS * LISTED] = [
-    0, 0, 1000, 100, 500, 50, //
+    0, 0, 1000, 100, 500, 50, 1, //
     65536, 16384, 0, 65536, 0, //
     131072, 16384, 65536, 32768, 0, //
     65536, 16384, 0, 65536, 32768, //
@@ -56,37 +56,54 @@ fn hidden<T>(x: T) -> T {
     x
 }
 
-type Replay = fn(i32, &[i32], &mut [i32]) -> i32;
+/// A loop of settings C with this mean and gain set.
+#[derive(Clone, Copy)]
+struct Case {
+    mean: i32,
+    set: usize,
+}
 
-fn proved(set: i32, samples: &[i32], out: &mut [i32]) -> i32 {
-    unsafe {
-        port_replay(C.as_ptr(), C.len(), set, TARGET, samples.as_ptr(), samples.len(), out.as_mut_ptr(), out.len())
+impl Case {
+    fn values(self) -> [i32; VALUES] {
+        let mut values = C;
+        values[MEAN] = self.mean;
+        values
     }
 }
 
-fn rust(set: i32, samples: &[i32], out: &mut [i32]) -> i32 {
-    match Loop::new(hidden(&C), set as usize, TARGET).replay(samples, out) {
+type Replay = fn(Case, &[i32], &mut [i32]) -> i32;
+
+fn proved(case: Case, samples: &[i32], out: &mut [i32]) -> i32 {
+    let values = case.values();
+    let set = case.set as i32;
+    unsafe {
+        port_replay(values.as_ptr(), values.len(), set, TARGET, samples.as_ptr(), samples.len(), out.as_mut_ptr(), out.len())
+    }
+}
+
+fn rust(case: Case, samples: &[i32], out: &mut [i32]) -> i32 {
+    match Loop::new(hidden(&case.values()), case.set, TARGET).replay(samples, out) {
         Ok(()) => 0,
         Err(_) => 4,
     }
 }
 
-fn run(replay: Replay, set: i32, samples: &[i32], out: &mut [i32]) {
-    let code = hidden(replay(hidden(set), hidden(samples), out));
+fn run(replay: Replay, case: Case, samples: &[i32], out: &mut [i32]) {
+    let code = hidden(replay(hidden(case), hidden(samples), out));
     assert_eq!(code, 0, "the replay is refused");
 }
 
 /// Exact: what 1,000 more samples add.
-fn instructions(replay: Replay, set: i32, samples: &[i32]) -> f64 {
+fn instructions(replay: Replay, case: Case, samples: &[i32]) -> f64 {
     let mut out = vec![0; 1256];
-    let few = count::count(|| run(replay, set, &samples[..256], &mut out[..256]));
-    let many = count::count(|| run(replay, set, &samples[..1256], &mut out));
+    let few = count::count(|| run(replay, case, &samples[..256], &mut out[..256]));
+    let many = count::count(|| run(replay, case, &samples[..1256], &mut out));
     (many - few) as f64 / 1000.0
 }
 
-fn seconds(replay: Replay, set: i32, samples: &[i32], out: &mut [i32]) -> f64 {
+fn seconds(replay: Replay, case: Case, samples: &[i32], out: &mut [i32]) -> f64 {
     let start = Instant::now();
-    run(replay, set, samples, out);
+    run(replay, case, samples, out);
     start.elapsed().as_secs_f64()
 }
 
@@ -112,21 +129,22 @@ fn series(wild: bool) -> Vec<i32> {
 }
 
 /// One line of the report, and whether both ratios are within bounds.
-fn compare(set: i32, wild: bool, emulated: bool) -> bool {
+fn compare(case: Case, wild: bool, emulated: bool) -> bool {
     let samples = series(wild);
     let (mut ours, mut theirs) = (vec![0; SAMPLES], vec![1; SAMPLES]);
     let (mut a, mut b) = (vec![], vec![]);
     for _ in 0..TURNS {
         // by turns, so that what disturbs one disturbs the other
-        a.push(seconds(proved, set, &samples, &mut ours));
-        b.push(seconds(rust, set, &samples, &mut theirs));
+        a.push(seconds(proved, case, &samples, &mut ours));
+        b.push(seconds(rust, case, &samples, &mut theirs));
     }
     assert!(ours == theirs, "the outputs differ");
-    let (steps, rust_steps) = (instructions(proved, set, &samples), instructions(rust, set, &samples));
+    let (steps, rust_steps) = (instructions(proved, case, &samples), instructions(rust, case, &samples));
     let (time, rust_time) = (median(a), median(b));
     let name = if wild { "wild" } else { "smooth" };
+    let Case { mean, set } = case;
     println!(
-        "set {set:2} {name:6}  instructions a sample {steps:6.2} to {rust_steps:6.2}, ratio {:.3}  time {:6.2} ms to {:6.2} ms, ratio {:.3}{}",
+        "mean {mean:3} set {set:2} {name:6}  instructions a sample {steps:6.2} to {rust_steps:6.2}, ratio {:.3}  time {:6.2} ms to {:6.2} ms, ratio {:.3}{}",
         steps / rust_steps,
         time * 1e3,
         rust_time * 1e3,
@@ -136,14 +154,20 @@ fn compare(set: i32, wild: bool, emulated: bool) -> bool {
     steps / rust_steps <= MOST && (emulated || time / rust_time <= MOST)
 }
 
+/// With mean 1 the sets that differ, and the last; with a mean over few and over all that the window holds, two of them.
+fn cases() -> impl Iterator<Item = Case> {
+    let each = (0..LISTED).chain([SETS - 1]).map(|set| Case { mean: 1, set });
+    let means = [7, 128].into_iter().flat_map(|mean| [0, 1].map(|set| Case { mean, set }));
+    each.chain(means)
+}
+
 fn main() {
     let emulated = std::env::var("X86_EMULATED").is_ok();
     println!("a replay of {SAMPLES} samples, proved to ordinary Rust");
     let mut within = true;
-    // those that differ, and the last
-    for set in (0..LISTED).chain([SETS - 1]) {
+    for case in cases() {
         for wild in [false, true] {
-            within &= compare(set as i32, wild, emulated);
+            within &= compare(case, wild, emulated);
         }
     }
     println!("{}", if within { "every ratio within 1.5" } else { "A RATIO ABOVE 1.5" });

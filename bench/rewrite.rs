@@ -1,15 +1,19 @@
-//! A replay as an engineer would write it in ordinary Rust: the record by `&mut`, one pass for the range, one for the law.
-//! Numbers are 64 bits wide within the record, which is the faster of the two ways. It is what the proved replay is measured
-//! against, and stays as it is.
+//! A replay as an engineer would write it in ordinary Rust: the record by `&mut`, one pass for the range, one for the law; the
+//! mean by a running sum and a reciprocal, and the window written once, at the end. Numbers are 64 bits wide within the record,
+//! which is the faster of the two ways. It is what the proved replay is measured against, and stays as it is.
 
 pub const F: i64 = 65_536;
 pub const B: i64 = 16_842_752_000_000;
 
 /// The gain sets of a loop, the values before them in the text, and those of each.
 pub const SETS: usize = 16;
-pub const ONCE: usize = 6;
+pub const ONCE: usize = 7;
 pub const GAINS: usize = 5;
 pub const VALUES: usize = ONCE + GAINS * SETS;
+
+/// Where the mean stands among the values, and the temperatures that a loop keeps for it.
+pub const MEAN: usize = 6;
+pub const WINDOW: usize = 128;
 
 #[derive(Clone, Copy)]
 pub struct Gains {
@@ -28,6 +32,7 @@ pub struct Settings {
     pub out: i64,
     pub sp: i64,
     pub rate: i64,
+    pub mean: usize,
     pub gains: [Gains; SETS],
 }
 
@@ -56,6 +61,8 @@ pub struct Loop {
     pub integral: i64,
     pub primed: bool,
     pub y: i64,
+    pub window: [i32; WINDOW],
+    pub seen: usize,
     pub number: u32,
     pub last: Option<Command>,
 }
@@ -63,6 +70,17 @@ pub struct Loop {
 /// To the nearest, halves away from zero.
 fn round(x: i64) -> i64 {
     (x + 32_768 + (x >> 63)) >> 16
+}
+
+/// 2^40 / count, a little too large: by less than what separates a mean from the next rounding step, and so that halves go
+/// away from zero on either side of it.
+fn reciprocal(count: usize) -> i64 {
+    (1 << 40) / count as i64 + 1
+}
+
+/// The sum over the count, to the nearest, halves away from zero.
+fn mean(sum: i32, reciprocal: i64) -> i32 {
+    ((i64::from(sum) * reciprocal + (1 << 39)) >> 40) as i32
 }
 
 impl Loop {
@@ -86,6 +104,7 @@ impl Loop {
             out: value(3),
             sp: value(4),
             rate: value(5),
+            mean: values[MEAN] as usize,
             gains: std::array::from_fn(gains),
         };
         Loop {
@@ -100,11 +119,14 @@ impl Loop {
             integral: 0,
             primed: false,
             y: 0,
+            window: [0; WINDOW],
+            seen: 0,
             number: 3,
             last: Some(Command::Target(target, values[5])),
         }
     }
 
+    #[inline(always)]
     fn sample(&mut self, pv: i32) -> i32 {
         let gains = self.settings.gains[self.set];
         let sign = if self.settings.action == 0 { 1 } else { -1 };
@@ -151,15 +173,51 @@ impl Loop {
         };
     }
 
+    /// Gives the law the mean of the last samples. The first of them drive those of the record out of the sum, of which the
+    /// unfilled places are zero, and every later one drives out the sample that far before it.
+    #[inline(always)]
+    fn sample_means(&mut self, samples: &[i32], out: &mut [i32]) {
+        let most = self.settings.mean;
+        let seen = self.seen;
+        let window = self.window;
+        let mut sum: i32 = window[..most].iter().sum();
+        let first = samples.len().min(most);
+        let (front, back) = out.split_at_mut(first.min(out.len()));
+        for (i, (pv, u)) in samples[..first].iter().zip(front).enumerate() {
+            sum += pv - window[most - 1 - i];
+            *u = self.sample(mean(sum, reciprocal(most.min(seen + i + 1))));
+        }
+        let over = reciprocal(most);
+        for ((pv, left), u) in samples[first..].iter().zip(samples).zip(back) {
+            sum += pv - left;
+            *u = self.sample(mean(sum, over));
+        }
+    }
+
+    /// The window holds the last samples, newest first.
+    fn keep(&mut self, samples: &[i32]) {
+        let taken = samples.len().min(WINDOW);
+        self.window.copy_within(..WINDOW - taken, taken);
+        for (place, pv) in self.window.iter_mut().zip(samples.iter().rev()) {
+            *place = *pv;
+        }
+        self.seen = WINDOW.min(self.seen + samples.len());
+    }
+
     /// The place of the first sample out of range is the refusal; nothing is changed then.
     #[inline(never)]
     pub fn replay(&mut self, samples: &[i32], out: &mut [i32]) -> Result<(), usize> {
         if let Some(place) = samples.iter().position(|pv| !(-1_000_000..=1_000_000).contains(pv)) {
             return Err(place);
         }
-        for (pv, u) in samples.iter().zip(out.iter_mut()) {
-            *u = self.sample(*pv);
+        if self.settings.mean == 1 {
+            for (pv, u) in samples.iter().zip(out.iter_mut()) {
+                *u = self.sample(*pv);
+            }
+        } else {
+            self.sample_means(samples, out);
         }
+        self.keep(samples);
         if let Some(pv) = samples.last() {
             self.number += samples.len() as u32;
             self.last = Some(Command::Sample(*pv));

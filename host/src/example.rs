@@ -1,10 +1,11 @@
 //! 01's own example: settings C, and the loop that its bench log starts from. For request 3, ovens
-//! whose outputs show a half at each place that 01 rounds.
+//! whose outputs show a half at each place that rounds.
 
+use crate::by_hand::PLACES;
 use crate::law::Loop;
 use crate::settings::{GainSet, Settings, SETS};
 
-/// "Settings C, whole": with request 5 it is a text of the short form.
+/// "Settings C, whole": with requests 5 and 7 it is a text of the shortest form.
 pub const C: &str = "\
 action=0
 lo=0
@@ -34,14 +35,14 @@ alpha3=65536
 kt3=0
 ";
 
-/// Settings C as a record, "with sets 4 to 15 equal to set 0".
+/// Settings C as a record, "with sets 4 to 15 equal to set 0" and "read as mean 1".
 pub fn settings() -> Settings {
     let set = |kp, ki, kd, alpha, kt| GainSet { kp, ki, kd, alpha, kt };
     let mut sets = [set(65_536, 16_384, 0, 65_536, 0); SETS];
     sets[1] = set(131_072, 16_384, 65_536, 32_768, 0);
     sets[2] = set(65_536, 16_384, 0, 65_536, 32_768);
     sets[3] = set(32_768, 0, 0, 65_536, 0);
-    Settings { action: 0, lo: 0, hi: 1_000, out: 100, sp: 500, rate: 50, sets }
+    Settings { action: 0, lo: 0, hi: 1_000, out: 100, sp: 500, rate: 50, mean: 1, sets }
 }
 
 /// "A fresh loop from C".
@@ -61,9 +62,16 @@ pub struct HalfOven {
     pub outputs: Vec<i32>,
 }
 
-/// A half at each place that 01 rounds: "the filter's step, D, the output, the share of kt".
-pub fn half_ovens() -> [HalfOven; 4] {
-    [half_in_the_filter(), half_in_d(), half_in_the_output(), half_in_the_share()]
+/// A half at each place that rounds: "the filter's step, D, the output, the share of kt", and the
+/// mean, which is "rounded as in request 3".
+pub fn half_ovens() -> [HalfOven; PLACES] {
+    [
+        half_in_the_filter(),
+        half_in_d(),
+        half_in_the_output(),
+        half_in_the_share(),
+        half_in_the_mean(),
+    ]
 }
 
 /// alpha = 1/2, kd = 1, kp = 1/2, out = -1, and pv = -1 for 17 samples: P + I = -F/2.
@@ -100,6 +108,14 @@ fn half_in_the_share() -> HalfOven {
     HalfOven { settings, samples: vec![0, -1, 32_768], outputs: vec![1, 1, 0] }
 }
 
+/// mean = 2, kp = 1, out = 0, and pv = -1 after 0: the mean of -0.5 becomes -1, and u = P = 1. With a
+/// mean of 0 it would be 0.
+fn half_in_the_mean() -> HalfOven {
+    let gains = GainSet { kp: 65_536, ki: 0, kd: 0, alpha: 65_536, kt: 0 };
+    let settings = Settings { mean: 2, ..half_settings(0, gains) };
+    HalfOven { settings, samples: vec![0, -1], outputs: vec![0, 1] }
+}
+
 fn half_settings(out: i32, gains: GainSet) -> Settings {
-    Settings { action: 0, lo: -10, hi: 10, out, sp: 0, rate: 1, sets: [gains; SETS] }
+    Settings { action: 0, lo: -10, hi: 10, out, sp: 0, rate: 1, mean: 1, sets: [gains; SETS] }
 }

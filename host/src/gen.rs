@@ -1,14 +1,14 @@
-//! Random and hostile inputs for the tests: settings, their text in either form, loop records,
+//! Random and hostile inputs for the tests: settings, their text in each of its forms, loop records,
 //! deliveries and sample files.
 //!
 //! What is drawn depends on the stream of the [`Rng`] alone, so a seed names an input.
 
 use crate::delivery::{deliver, Delivery};
+use crate::form::Form;
 use crate::journal::delivery_line;
 use crate::law::{Command, Loop, Mode};
 use crate::rng::Rng;
-use crate::settings::{places, GainSet, Row, Settings, LINES, ROWS, SETS};
-use crate::text::{lines_of, SHORT_LINES, SHORT_SETS};
+use crate::settings::{places, GainSet, Row, Settings, LINES, MEAN, ROWS, SETS, WINDOW};
 
 const LEAST_PV: i32 = -1_000_000;
 const MOST_PV: i32 = 1_000_000;
@@ -54,19 +54,15 @@ fn around32(rng: &mut Rng, least: i32, most: i32) -> i32 {
 }
 
 /// Valid settings: a third of them at the ends of the ranges, a third of a loop that moves within
-/// its limits, a third of one whose roundings land on halves. One time in two they have a text of
-/// the short form, too.
+/// its limits, a third of one whose roundings land on halves. Each form of the text says a quarter of
+/// them whole, at least.
 pub fn settings(rng: &mut Rng) -> Settings {
-    let mut settings = match rng.below(3) {
+    let settings = match rng.below(3) {
         0 => extreme_settings(rng),
         1 => lively_settings(rng),
         _ => halving_settings(rng),
     };
-    if rng.one_in(2) {
-        let first = settings.sets[0];
-        settings.sets[SHORT_SETS..].fill(first);
-    }
-    settings
+    rng.pick(&Form::ALL).says(&settings)
 }
 
 fn extreme_settings(rng: &mut Rng) -> Settings {
@@ -107,7 +103,18 @@ fn settings_within(
         out: rng.between(i64::from(lo), i64::from(hi)) as i32,
         sp: rng.between(-sp, sp) as i32,
         rate: rng.between(1, rate) as i32,
+        mean: mean(rng),
         sets: [(); SETS].map(|()| gains(rng)),
+    }
+}
+
+/// How many temperatures the mean is over: few, whose sums often lie on a half, or any number, often
+/// all that the window holds or one less.
+fn mean(rng: &mut Rng) -> i32 {
+    if rng.one_in(2) {
+        rng.pick(&[2, 2, 4, 7])
+    } else {
+        within32(rng, MEAN.least, MEAN.most)
     }
 }
 
@@ -162,29 +169,15 @@ fn any_place(rng: &mut Rng) -> (usize, Row) {
     (rng.pick(&choices), row)
 }
 
-/// A text of these settings: of the short form in half the cases where it says them whole, "with
-/// sets 4 to 15 equal to set 0".
+/// A text of these settings, in any of the forms that say them whole.
 pub fn settings_text(rng: &mut Rng, settings: &Settings) -> Vec<u8> {
-    let like_the_first = |set: &GainSet| *set == settings.sets[0];
-    if settings.sets[SHORT_SETS..].iter().all(like_the_first) && rng.one_in(2) {
-        short_text(settings)
-    } else {
-        lines_of(settings).into_bytes()
-    }
+    let whole = Form::ALL.into_iter().filter(|form| form.says(settings) == *settings);
+    rng.pick(&whole.collect::<Vec<Form>>()).text(settings)
 }
 
-/// The settings' text, or the front of it that is of the short form, whatever that leaves out.
-pub fn either_form(rng: &mut Rng, settings: &Settings) -> Vec<u8> {
-    if rng.one_in(2) {
-        short_text(settings)
-    } else {
-        lines_of(settings).into_bytes()
-    }
-}
-
-/// The settings' text so far as the short form goes.
-pub fn short_text(settings: &Settings) -> Vec<u8> {
-    pieces(lines_of(settings).as_bytes())[..SHORT_LINES].concat()
+/// A text of these settings in any form, whatever that leaves out.
+pub fn any_form(rng: &mut Rng, settings: &Settings) -> Vec<u8> {
+    rng.pick(&Form::ALL).text(settings)
 }
 
 /// A record that keeps the state rules, though most of these are never reached.
@@ -193,18 +186,22 @@ pub fn record(rng: &mut Rng) -> Loop {
     let automatic = rng.one_in(2);
     let primed = !rng.one_in(4);
     let last = last_number(rng);
+    let w = within32(rng, LEAST_PV, MOST_PV);
+    let seen = seen(rng, &settings);
     let mut record = Loop {
         settings,
         mode: if automatic { Mode::Automatic } else { Mode::Manual },
         pending: automatic && rng.one_in(3),
         set: rng.below(SETS) as i32,
-        w: within32(rng, LEAST_PV, MOST_PV),
+        w,
         target: within32(rng, LEAST_PV, MOST_PV),
         rate: within32(rng, 1, MOST_RATE),
         u: within32(rng, settings.lo, settings.hi),
         integral: within(rng, -Loop::B, Loop::B),
         primed,
         y: if primed { within(rng, -Loop::Y, Loop::Y) } else { 0 },
+        window: window(rng, w, seen),
+        seen,
         last,
         last_command: None,
     };
@@ -213,6 +210,28 @@ pub fn record(rng: &mut Rng) -> Loop {
         record.last_command = Some(command);
     }
     record
+}
+
+/// How many temperatures a record has seen: any number of them, often just enough for its mean, one
+/// too few, none, or all that the window holds.
+fn seen(rng: &mut Rng, settings: &Settings) -> usize {
+    let enough = settings.mean as usize;
+    let any = rng.below(WINDOW + 1);
+    rng.pick(&[0, enough - 1, enough, WINDOW - 1, WINDOW, any])
+}
+
+/// A window with so many temperatures in it: about the setpoint, or anywhere.
+fn window(rng: &mut Rng, w: i32, seen: usize) -> [i32; WINDOW] {
+    let about = rng.one_in(2);
+    let mut window = [0; WINDOW];
+    for raw in &mut window[..seen] {
+        *raw = if about {
+            in_range(w + rng.between(-3, 3) as i32)
+        } else {
+            within32(rng, LEAST_PV, MOST_PV)
+        };
+    }
+    window
 }
 
 /// This record with one to three of its numbers and flags changed, most of them against a rule.
@@ -227,7 +246,7 @@ pub fn doubtful(rng: &mut Rng, record: &Loop) -> Loop {
 /// Changes one thing.
 fn spoil(rng: &mut Rng, record: &mut Loop) {
     let Settings { lo, hi, .. } = record.settings;
-    match rng.below(12) {
+    match rng.below(16) {
         0 => record.settings = doubtful_settings(rng),
         1 => record.mode = Mode::Manual,
         2 => record.pending = !record.pending,
@@ -239,6 +258,10 @@ fn spoil(rng: &mut Rng, record: &mut Loop) {
         8 => record.integral = rng.pick(&[Loop::B + 1, -Loop::B - 1, i64::MIN, i64::MAX]),
         9 => record.y = rng.pick(&[Loop::Y + 1, -Loop::Y - 1, i64::MIN, i64::MAX]),
         10 => record.primed = !record.primed,
+        11 => record.window[rng.below(WINDOW)] = outside32(rng, LEAST_PV, MOST_PV),
+        12 => record.window[WINDOW - 1] = within32(rng, LEAST_PV, MOST_PV),
+        13 => record.settings.mean = outside32(rng, MEAN.least, MEAN.most),
+        14 => record.seen = rng.pick(&[0, WINDOW - 1, WINDOW + 1, 2 * WINDOW, usize::MAX]),
         _ => record.last = 0,
     }
 }
@@ -535,7 +558,7 @@ fn damage(rng: &mut Rng, bytes: &mut Vec<u8>) {
         return;
     }
     let place = rng.below(bytes.len());
-    match rng.below(11) {
+    match rng.below(12) {
         0 => bytes[place] = odd_byte(rng),
         1 => {
             bytes.remove(place);
@@ -546,6 +569,7 @@ fn damage(rng: &mut Rng, bytes: &mut Vec<u8>) {
         5 => bytes.truncate(place),
         6 => append(rng, bytes),
         7 => cut_after_a_line(rng, bytes),
+        8 => leave_out_a_line(rng, bytes),
         _ => change_a_value(rng, bytes),
     }
 }
@@ -575,6 +599,13 @@ fn swap_two_lines(rng: &mut Rng, bytes: &mut Vec<u8>) {
     *bytes = lines.concat();
 }
 
+fn leave_out_a_line(rng: &mut Rng, bytes: &mut Vec<u8>) {
+    let mut lines = pieces(bytes);
+    let place = any_line(rng, &lines);
+    lines.remove(place);
+    *bytes = lines.concat();
+}
+
 fn cut_after_a_line(rng: &mut Rng, bytes: &mut Vec<u8>) {
     let lines = pieces(bytes);
     let count = rng.below(lines.len() + 1);
@@ -587,14 +618,21 @@ fn append(rng: &mut Rng, bytes: &mut Vec<u8>) {
     }
 }
 
-/// Gives one `key=value` of a line another value, well formed or not. The first lines, where lo, hi
-/// and out stand, have more than their share.
+/// One of the lines; the first ones, where each row of the table stands, have more than their share.
+fn any_line(rng: &mut Rng, lines: &[Vec<u8>]) -> usize {
+    let among = if rng.one_in(2) { lines.len() } else { lines.len().min(ROWS.len()) };
+    rng.below(among)
+}
+
+/// Gives one `key=value` of a line another value, well formed or not.
 fn change_a_value(rng: &mut Rng, bytes: &mut Vec<u8>) {
-    const VALUES: [&[u8]; 22] = [
+    const VALUES: [&[u8]; 24] = [
         b"0",
         b"1",
         b"-1",
         b"2",
+        b"128",
+        b"129",
         b"65536",
         b"65537",
         b"1000000",
@@ -615,8 +653,7 @@ fn change_a_value(rng: &mut Rng, bytes: &mut Vec<u8>) {
         b"-",
     ];
     let mut lines = pieces(bytes);
-    let among = if rng.one_in(2) { lines.len() } else { lines.len().min(ROWS.len()) };
-    let line = rng.below(among);
+    let line = any_line(rng, &lines);
     let signs: Vec<usize> = (0..lines[line].len()).filter(|&at| lines[line][at] == b'=').collect();
     if !signs.is_empty() {
         let start = rng.pick(&signs) + 1;

@@ -1,7 +1,8 @@
-//! 01, "What a loop remembers" and "The law, one command at a time".
+//! 01, "What a loop remembers" and "The law, one command at a time", with the mean of request 7
+//! "ahead of the filter".
 
 use crate::refusal::Refusal;
-use crate::settings::{self, GainSet, Settings};
+use crate::settings::{self, GainSet, Settings, WINDOW};
 use std::cmp::Ordering;
 use std::ops::RangeInclusive;
 
@@ -17,7 +18,7 @@ pub enum Mode {
 /// A command with its values. Two are the same when their values are, too.
 #[derive(Debug, Clone, Copy, PartialEq, Eq)]
 pub enum Command {
-    /// A temperature pv.
+    /// A temperature, the raw one: "code 4 tests the raw one".
     Sample(i32),
     /// "Manual, not pending; u stays."
     Hold,
@@ -61,6 +62,11 @@ pub struct Loop {
     pub primed: bool,
     /// The filter, "temperature times F".
     pub y: i64,
+    /// The raw temperatures of the last kept samples: "a window of 128 places that starts filled
+    /// with zeros, newest first".
+    pub window: [i32; WINDOW],
+    /// How many of its places are filled: the kept samples, so long as they are at most 128.
+    pub seen: usize,
     /// The last number kept, 0 before the first.
     pub last: u32,
     /// The command kept under that number.
@@ -70,7 +76,13 @@ pub struct Loop {
 /// round(x / F), to the nearest whole number. Request 3: "Halves shall go away from zero,
 /// everywhere that 01 rounds: fine -32,768 now gives -1, and -32,767 gives 0."
 pub fn round(x: i64) -> i64 {
-    let size = (x.abs() + Loop::F / 2) / Loop::F;
+    round_over(x, Loop::F)
+}
+
+/// round(x / n) in the same way, for n at least 1. An odd n has no halves, and the floor of its own
+/// half is as good.
+pub fn round_over(x: i64, n: i64) -> i64 {
+    let size = (x.abs() + n / 2) / n;
     if x < 0 {
         -size
     } else {
@@ -119,6 +131,8 @@ impl Loop {
             integral: 0,
             primed: false,
             y: 0,
+            window: [0; WINDOW],
+            seen: 0,
             last: 0,
             last_command: None,
         }
@@ -160,6 +174,7 @@ impl Loop {
             && self.limits().contains(&self.u)
             && (-Self::B..=Self::B).contains(&self.integral)
             && self.filter_in_order()
+            && self.window_in_order()
             && !(self.pending && self.mode == Mode::Manual)
             && self.last_command.is_none() == (self.last == 0);
         if kept {
@@ -174,6 +189,14 @@ impl Loop {
         (-Self::Y..=Self::Y).contains(&self.y) && (self.primed || self.y == 0)
     }
 
+    /// Request 7: "the window's temperatures lie in range, at most 128 are seen, unfilled places are
+    /// zero". That m lies in range is "settings within the table".
+    fn window_in_order(&self) -> bool {
+        self.window.iter().all(|raw| Self::TEMPERATURES.contains(raw))
+            && self.seen <= WINDOW
+            && self.window[self.seen..].iter().all(|&raw| raw == 0)
+    }
+
     /// The output limits lo..hi.
     fn limits(&self) -> RangeInclusive<i32> {
         self.settings.lo..=self.settings.hi
@@ -182,7 +205,7 @@ impl Loop {
     /// "then content, with 6 before 5 and 7 before 8"
     pub(crate) fn content(&self, command: Command) -> Result<(), Refusal> {
         match command {
-            Command::Sample(pv) if !Self::TEMPERATURES.contains(&pv) => Err(Refusal::Temperature),
+            Command::Sample(raw) if !Self::TEMPERATURES.contains(&raw) => Err(Refusal::Temperature),
             Command::Put(_) if self.mode == Mode::Automatic => Err(Refusal::PutWhileAutomatic),
             Command::Put(x) if !self.limits().contains(&x) => Err(Refusal::PutOutside),
             Command::Target { target, .. } if !Self::TEMPERATURES.contains(&target) => {
@@ -200,7 +223,7 @@ impl Loop {
     /// Carries the command out.
     pub(crate) fn step(&mut self, command: Command) {
         match command {
-            Command::Sample(pv) => self.sample(pv),
+            Command::Sample(raw) => self.sample(raw),
             Command::Hold => self.hold(),
             Command::Put(x) => self.u = x,
             Command::Automatic => self.automatic(),
@@ -243,8 +266,11 @@ impl Loop {
         }
     }
 
-    /// A sample, in the law's six steps.
-    pub(crate) fn sample(&mut self, pv: i32) {
+    /// A sample, in the law's six steps. Request 7: "The law then reads the mean wherever 01 writes
+    /// pv".
+    pub(crate) fn sample(&mut self, raw: i32) {
+        self.take(raw);
+        let pv = self.mean();
         self.ramp();
         let d = self.filter(pv);
         let e = self.sign() * i64::from(self.w - pv);
@@ -254,6 +280,22 @@ impl Loop {
             (Mode::Automatic, true) => self.transfer(p, d),
             (Mode::Automatic, false) => self.ordinary(e, p, d),
         }
+    }
+
+    /// "The window takes every kept sample, in manual too", and the oldest leaves it.
+    fn take(&mut self, raw: i32) {
+        self.window.rotate_right(1);
+        self.window[0] = raw;
+        self.seen = WINDOW.min(self.seen + 1);
+    }
+
+    /// "mean over the last m temperatures [..]. Until m are seen, it is over those seen. The sum is
+    /// exact, the mean rounded as in request 3."
+    fn mean(&self) -> i32 {
+        let last = &self.window[..self.seen.min(self.settings.mean as usize)];
+        let sum = last.iter().map(|&raw| i64::from(raw)).sum();
+        let mean = round_over(sum, last.len() as i64);
+        i32::try_from(mean).expect("a mean lies between the least and the most of its temperatures")
     }
 
     /// Step 1: "w moves toward the target by the smaller of rate and the distance."

@@ -1,6 +1,6 @@
 //! A temperature loop in ordinary Rust, written from document 01 ("The exact rules and the build")
-//! and the requests of document 02 that have landed: request 3 ("Mirrored ovens disagree by one")
-//! and request 5 ("Sixteen gain sets").
+//! and the requests of document 02 that have landed: request 3 ("Mirrored ovens disagree by one"),
+//! request 5 ("Sixteen gain sets") and request 7 ("Moving mean ahead of the filter").
 //!
 //! It is a second opinion: tests compare its answers, and the whole output of its two programs,
 //! with those of the proved ones. So it says the papers as plainly as it can, sentence by sentence,
@@ -20,7 +20,9 @@
 //! | 3, halves away from zero | [`law::round`] |
 //! | 3, the two mirrors | [`mirror`] |
 //! | 5, the number of sets and the table | [`settings`] |
-//! | 5, the two forms of the text | [`text`] |
+//! | 7, the row of the mean | [`settings`] |
+//! | 7, the window and the mean | [`law`] |
+//! | 5 and 7, the four forms of the text | [`text`], [`form`] |
 //!
 //! [`rng`] and [`gen`] make the random and hostile inputs of the tests, which
 //! `cargo test --offline --release` runs; a random test that fails tells its seed. [`by_hand`]
@@ -33,6 +35,7 @@ pub mod by_hand;
 pub mod decimal;
 pub mod delivery;
 pub mod example;
+pub mod form;
 pub mod gen;
 pub mod journal;
 pub mod law;

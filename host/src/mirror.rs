@@ -66,7 +66,8 @@ impl Mirror {
     }
 
     /// "outputs and integral with the other sign; w, y as the request says. Last commands are
-    /// mirrored too." None where the last command has no mirror.
+    /// mirrored too." The temperatures of the window are flipped where "temperatures" are. None where
+    /// the last command has no mirror.
     pub fn record(self, record: &Loop) -> Option<Loop> {
         let last_command = match record.last_command {
             Some(command) => Some(self.command(command)?),
@@ -79,6 +80,7 @@ impl Mirror {
             u: opposite(record.u),
             integral: record.integral.saturating_neg(),
             y: self.filter(record.y),
+            window: record.window.map(|raw| self.temperature(raw)),
             last_command,
             ..*record
         })
@@ -93,7 +95,7 @@ impl Mirror {
         }
     }
 
-    /// sp, w and the target that the record holds.
+    /// sp, w, the target and the window's temperatures that the record holds.
     fn temperature(self, number: i32) -> i32 {
         match self {
             Mirror::OfAction => number,

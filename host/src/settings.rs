@@ -1,18 +1,22 @@
-//! 01, "Units": the settings, with the sixteen gain sets of request 5, and the one table of their
-//! ranges.
+//! 01, "Units": the settings, with the sixteen gain sets of request 5 and the mean of request 7, and
+//! the one table of their ranges.
 
 use crate::refusal::Refusal;
 
 /// How many gain sets a loop has. Request 5: "Raise four to sixteen".
 pub const SETS: usize = 16;
 
+/// How many temperatures a loop keeps, and so the most that a mean is over. Request 7: "m from 1 to
+/// 128, kept in a window of 128 places".
+pub const WINDOW: usize = 128;
+
 /// How many rows of the table stand once, before those of the gain sets.
-const ONCE: usize = 6;
+const ONCE: usize = 7;
 
 /// How many rows of the table stand in each gain set.
 const GAINS: usize = 5;
 
-/// How many lines a text has that names so many gain sets.
+/// How many lines a text has that names the mean and so many gain sets.
 pub const fn lines_with(sets: usize) -> usize {
     ONCE + GAINS * sets
 }
@@ -50,6 +54,8 @@ pub struct Settings {
     pub sp: i32,
     /// "most the setpoint moves in one sample"
     pub rate: i32,
+    /// Of how many temperatures the law reads the mean: "the last m".
+    pub mean: i32,
     /// The gain sets, from 0 on.
     pub sets: [GainSet; SETS],
 }
@@ -76,6 +82,10 @@ const fn row(letters: &'static str, least: i32, most: i32) -> Row {
     Row { letters, least, most }
 }
 
+/// The row of the mean, the one whose line a text may leave out. Request 7: "One settings line,
+/// mean, follows rate".
+pub const MEAN: Row = row("mean", 1, WINDOW as i32);
+
 /// "The ranges of the settings are one constant table of rows, which reader, writer and maker all
 /// consult."
 ///
@@ -89,6 +99,7 @@ pub const ROWS: [Row; ONCE + GAINS] = [
     row("out", -1_000_000, 1_000_000),
     row("sp", -1_000_000, 1_000_000),
     row("rate", 1, 2_000_000),
+    MEAN,
     row("kp", 0, 4_194_304),
     row("ki", 0, 4_194_304),
     row("kd", 0, 4_194_304),
@@ -115,8 +126,8 @@ impl Place {
     }
 }
 
-/// The place of every value, in the order of the text: "action, lo, hi, out, sp, rate, then kp0 ki0
-/// kd0 alpha0 kt0, then the same" for each other set.
+/// The place of every value, in the order of the text: "action, lo, hi, out, sp, rate", the mean,
+/// "then kp0 ki0 kd0 alpha0 kt0, then the same" for each other set.
 pub fn places() -> impl Iterator<Item = Place> {
     let once = ROWS.into_iter().take(ONCE).map(|row| Place { row, set: None });
     let gains = |k| ROWS.into_iter().skip(ONCE).map(move |row| Place { row, set: Some(k) });
@@ -128,7 +139,8 @@ impl Settings {
     pub fn values(&self) -> [i32; LINES] {
         let mut values = [0; LINES];
         let (once, gains) = values.split_at_mut(ONCE);
-        once.copy_from_slice(&[self.action, self.lo, self.hi, self.out, self.sp, self.rate]);
+        let Settings { action, lo, hi, out, sp, rate, mean, .. } = *self;
+        once.copy_from_slice(&[action, lo, hi, out, sp, rate, mean]);
         for (place, set) in gains.chunks_exact_mut(GAINS).zip(&self.sets) {
             place.copy_from_slice(&[set.kp, set.ki, set.kd, set.alpha, set.kt]);
         }
@@ -145,6 +157,7 @@ impl Settings {
             out: once[3],
             sp: once[4],
             rate: once[5],
+            mean: once[6],
             ..Settings::default()
         };
         for (set, gains) in settings.sets.iter_mut().zip(gains.chunks_exact(GAINS)) {

@@ -1,15 +1,18 @@
-//! 01, "Settings text", in the two forms of request 5: the reader and the writer.
+//! 01, "Settings text", in the four forms of requests 5 and 7: the reader and the writer.
 
 use crate::decimal;
 use crate::refusal::{code, Refusal};
-use crate::settings::{lines_with, places, Place, Settings, LINES};
+use crate::settings::{lines_with, places, Place, Settings, LINES, MEAN};
 
 /// How many gain sets a text of 01 names: with request 5 it is the short form, which "is still
 /// read".
 pub const SHORT_SETS: usize = 4;
 
-/// How many lines the short form has.
+/// How many lines the short form has, that of the mean among them.
 pub const SHORT_LINES: usize = lines_with(SHORT_SETS);
+
+/// "a text whose line after rate begins with kp0 is read as mean 1"
+pub const MEAN_LEFT_OUT: i32 = 1;
 
 /// What the reader answers.
 #[derive(Debug, Clone, Copy, PartialEq, Eq)]
@@ -41,19 +44,27 @@ pub fn read(text: &[u8]) -> Reading {
     }
 }
 
-/// "Lines count from 1 and are tested in order, 14 before 15 in each. [..] Then 17, then 16."
+/// "Lines count from 1 and are tested in order, 14 before 15 in each. [..] Then 17, then 16." They
+/// are counted as they stand: one that the text leaves out has no number.
 ///
 /// "26 or 86 lines are good, nothing between": any byte after the short form "is tested as line 27
-/// is, 14 before 15, and on to line 86; 17 comes only after the last line".
+/// is, 14 before 15, and on to line 86; 17 comes only after the last line". Request 7: "with the
+/// line request 5's 26 and 27 are one more".
 fn parse(text: &[u8]) -> Result<Settings, (Refusal, usize)> {
     let mut lines = text.split_inclusive(|&byte| byte == b'\n').peekable();
     let mut values = [0; LINES];
+    let mut number = 0;
     for (index, place) in places().enumerate() {
         if index == SHORT_LINES && lines.peek().is_none() {
             return accepted(short(&values));
         }
+        if place.row == MEAN && lines.peek().map_or(false, |line| line.starts_with(b"kp0")) {
+            values[index] = MEAN_LEFT_OUT;
+            continue;
+        }
+        number += 1;
         let line = lines.next().unwrap_or(b"");
-        values[index] = value(line, &place).map_err(|refusal| (refusal, index + 1))?;
+        values[index] = value(line, &place).map_err(|refusal| (refusal, number))?;
     }
     if lines.next().is_some() {
         return Err((Refusal::BytesAfter, 0));
@@ -107,7 +118,8 @@ fn fill(settings: &Settings, buffer: &mut [u8]) -> Result<usize, Refusal> {
     Ok(text.len())
 }
 
-/// The lines of any settings record, in range or not. "Writing always gives 86 lines".
+/// The lines of any settings record, in range or not. "Writing always gives 86 lines", and with
+/// request 7 one more: "The writer always gives it".
 pub fn lines_of(settings: &Settings) -> String {
     let line = |(place, value): (Place, i32)| format!("{}={value}\n", place.key());
     places().zip(settings.values()).map(line).collect()

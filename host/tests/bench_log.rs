@@ -81,6 +81,8 @@ fn the_log_ends_in_this_record() {
     for (number, command, ..) in LOG {
         deliver(&mut record, number, command);
     }
+    let mut window = [0; 128];
+    window[..7].copy_from_slice(&[476, 476, 476, 478, 480, 480, 480]);
     let end = Loop {
         settings: example::settings(),
         mode: Mode::Automatic,
@@ -93,6 +95,8 @@ fn the_log_ends_in_this_record() {
         integral: fine(88.5),
         primed: true,
         y: fine(476.25),
+        window,
+        seen: 7,
         last: 10,
         last_command: Some(Sample(476)),
     };

@@ -1,11 +1,12 @@
 //! The generators give what the other tests need of them: nothing that matters stays unreached.
 
-use host::by_hand::Halves;
+use host::by_hand::{amounts, Halves};
 use host::delivery::{deliver, Delivery};
+use host::form::Form;
 use host::gen;
 use host::law::{Command, Loop, Mode};
 use host::rng::{for_each_seed, Rng};
-use host::settings::places;
+use host::settings::{places, Settings};
 use host::text;
 
 #[test]
@@ -33,7 +34,7 @@ fn ends() -> impl Iterator<Item = (i32, i32)> {
 
 #[test]
 fn settings_are_valid_and_reach_both_ends_of_every_range() {
-    let mut reached = [(0, 0); 86];
+    let mut reached = [(0, 0); 87];
     let mut forms = [0; 2];
     for_each_seed(2_000, |rng| {
         let settings = gen::settings(rng);
@@ -51,25 +52,50 @@ fn settings_are_valid_and_reach_both_ends_of_every_range() {
     assert!(forms[0] > 500 && forms[1] > 500, "back-calculation and clamping {forms:?}");
 }
 
-/// Texts of 26 and of 86 lines, and of settings whose sets 4 to 15 are those of set 0 both.
+/// The form of a text that is well formed.
+fn form_of(text: &[u8]) -> Form {
+    let lines: Vec<&[u8]> = text.split_inclusive(|&byte| byte == b'\n').collect();
+    let mean = lines[6].starts_with(b"mean=");
+    match lines.len() - usize::from(mean) {
+        26 => Form { mean, short: true },
+        86 => Form { mean, short: false },
+        others => panic!("{others} lines"),
+    }
+}
+
+/// Counts a text of this form.
+fn count(counts: &mut [i32; 4], form: Form) {
+    counts[2 * usize::from(form.mean) + usize::from(form.short)] += 1;
+}
+
+/// Texts of 26, 27, 86 and 87 lines, each of settings that it says whole.
 #[test]
-fn texts_are_of_either_form_and_say_their_settings() {
-    let (mut forms, mut fronts) = ([0; 4], [0; 2]);
+fn texts_are_of_each_form_and_say_their_settings() {
+    let [mut forms, mut drawn] = [[0; 4]; 2];
     for_each_seed(2_000, |rng| {
         let settings = gen::settings(rng);
-        let count = |text: &[u8]| text.iter().filter(|&&byte| byte == b'\n').count();
-        let alike = settings.sets[4..].iter().all(|set| *set == settings.sets[0]);
         let said = gen::settings_text(rng, &settings);
-        assert!(count(&said) == 86 || count(&said) == 26 && alike, "{settings:?}");
         assert_eq!(text::read(&said).settings, settings);
-        forms[2 * usize::from(alike) + usize::from(count(&said) == 26)] += 1;
-        let front = gen::either_form(rng, &settings);
-        assert!(text::lines_of(&settings).as_bytes().starts_with(&front));
-        assert!(count(&front) == 86 || count(&front) == 26);
-        fronts[usize::from(count(&front) == 26)] += 1;
+        count(&mut forms, form_of(&said));
+        let any = gen::any_form(rng, &settings);
+        let Settings { mean, sets, .. } = text::read(&any).settings;
+        let form = form_of(&any);
+        assert_eq!(mean, if form.mean { settings.mean } else { 1 });
+        assert_eq!(sets[4], settings.sets[if form.short { 0 } else { 4 }]);
+        count(&mut drawn, form);
     });
-    assert!(forms[0] > 500 && forms[2] > 300 && forms[3] > 300, "{forms:?}");
-    assert!(fronts[0] > 500 && fronts[1] > 500, "{fronts:?}");
+    assert!(forms.iter().all(|&count| count > 100), "{forms:?}");
+    assert!(drawn.iter().all(|&count| count > 300), "{drawn:?}");
+}
+
+/// Every mean from 1 to 128, and the ends more often than the others.
+#[test]
+fn settings_have_every_mean() {
+    let mut means = [0; 129];
+    for_each_seed(10_000, |rng| means[gen::settings(rng).mean as usize] += 1);
+    assert_eq!(means[0], 0);
+    assert!(means[1..].iter().all(|&count| count > 0), "{means:?}");
+    assert!([1, 2, 127, 128].iter().all(|&mean| means[mean] > 200), "{means:?}");
 }
 
 /// A delivery of a generated list: the record before it, its command, its code and the record after.
@@ -91,6 +117,34 @@ fn for_each_delivery(mut show: impl FnMut(Delivered)) {
             show(Delivered { before, command, code, after: record });
         }
     });
+}
+
+/// Samples that find the window empty, with too few temperatures for the mean, with enough, and full;
+/// and means of each kind: over all that are seen, over fewer, over all that the window holds.
+#[test]
+fn deliveries_reach_every_state_of_the_window() {
+    let mut windows = [0; 4];
+    let mut other_means = 0;
+    for_each_seed(100, |rng| {
+        let settings = gen::settings(rng);
+        let mut record = Loop::make(&settings).1;
+        for Delivery { number, command } in gen::deliveries(rng, &settings, 600) {
+            let before = record;
+            deliver(&mut record, number, command);
+            if let (Command::Sample(raw), true) = (command, record.last != before.last) {
+                let enough = before.seen >= settings.mean as usize;
+                windows[match before.seen {
+                    0 => 0,
+                    128 => 3,
+                    _ => 1 + usize::from(enough),
+                }] += 1;
+                let (sum, count) = amounts(&before, raw).mean;
+                other_means += i32::from(sum != count * i64::from(raw));
+            }
+        }
+    });
+    assert!(windows.iter().all(|&count| count >= 100), "empty, too few, enough, full {windows:?}");
+    assert!(other_means > 5_000, "{other_means} means that are not the temperature");
 }
 
 /// Ordinary samples in each of the sixteen sets, and commands for each set and past both ends.
@@ -158,7 +212,7 @@ fn deliveries_reach_every_command_code_and_kind_of_sample() {
 
 #[test]
 fn records_are_valid_and_of_every_kind() {
-    let mut kinds = [0; 8];
+    let mut kinds = [0; 13];
     for_each_seed(3_000, |rng| {
         let record = gen::record(rng);
         assert_eq!(record.check(), Ok(()));
@@ -171,6 +225,11 @@ fn records_are_valid_and_of_every_kind() {
             record.integral.abs() == Loop::B,
             record.y.abs() == Loop::Y,
             record.settings.action == 1,
+            record.seen == 0 && record.primed,
+            record.seen > 0 && !record.primed,
+            record.seen + 1 < record.settings.mean as usize,
+            record.seen == 127,
+            record.seen == 128,
         ];
         for (kind, mark) in kinds.iter_mut().zip(marks) {
             *kind += i32::from(mark);
@@ -194,7 +253,7 @@ fn deliveries_and_samples_land_on_halves_of_either_sign_at_every_place() {
 #[test]
 fn doubtful_records_break_every_rule_and_some_keep_them() {
     let mut kept = 0;
-    let mut broken = [0; 9];
+    let mut broken = [0; 13];
     for_each_seed(5_000, |rng| {
         let sound = gen::record(rng);
         let record = gen::doubtful(rng, &sound);
@@ -208,6 +267,10 @@ fn doubtful_records_break_every_rule_and_some_keep_them() {
             record.y.checked_abs().map_or(false, |size| size <= Loop::Y),
             record.primed || record.y == 0,
             record.mode == Mode::Automatic || !record.pending,
+            (1..=128).contains(&record.settings.mean),
+            record.window.iter().all(|raw| Loop::TEMPERATURES.contains(raw)),
+            record.seen <= 128,
+            record.window.iter().skip(record.seen).all(|&raw| raw == 0),
         ];
         for (count, rule) in broken.iter_mut().zip(rules) {
             *count += i32::from(!rule);

@@ -10,13 +10,11 @@ use host::gen;
 use host::journal::{delivery_line, parse, run};
 use host::law::{Command, Loop};
 use host::rng::for_each_seed;
-use papers::{both_forms, edges_told, full_c};
+use papers::{delivered_with_mean_2, edges_told, full_c, short_c, JOURNAL_WITH_MEAN_2};
 
-/// The output with settings C, which is the same with each of its two texts.
+/// The output with settings C.
 fn with_c(deliveries: &str) -> String {
-    let [one, other] = both_forms().map(|(_, text)| run(text.as_bytes(), deliveries.as_bytes()));
-    assert_eq!(one, other);
-    one
+    papers::with_c(|settings| run(settings, deliveries.as_bytes()))
 }
 
 /// The bench log of 01 as a journal.
@@ -70,6 +68,13 @@ number=2 command=put value=0 second=0 code=0 output=0 last=2
     let delivered = |line: &str| format!("{}\n", &line[..line.find(" code=").unwrap()]);
     let deliveries: String = journal.lines().map(delivered).collect();
     assert_eq!(with_c(&deliveries), journal);
+}
+
+/// Repeats and refusals do not enter the window, manual samples do.
+#[test]
+fn only_kept_samples_enter_the_mean() {
+    let written = run(short_c("mean=2").as_bytes(), &delivered_with_mean_2());
+    assert_eq!(written, JOURNAL_WITH_MEAN_2);
 }
 
 #[test]

@@ -8,8 +8,9 @@ mod papers;
 use common::{across_a_cut, for_each_seed, odd_lines, same, words_of_digits, Program};
 use host::delivery::Delivery;
 use host::law::Command;
+use host::settings::Settings;
 use host::{example, gen, journal};
-use papers::{both_forms, edges_told};
+use papers::{delivered_with_mean_2, edges_told, short_c, FORMS, JOURNAL_WITH_MEAN_2, MEANS};
 
 fn journal_agrees(program: &Program, settings: &[u8], deliveries: &[u8]) {
     same("journal", &program.run(settings, deliveries), &journal::run(settings, deliveries));
@@ -60,12 +61,12 @@ fn the_bench_log() {
 fn the_sets_that_26_lines_leave_out_are_set_0() {
     let program = Program::new("journal");
     let samples = [480, 480, 478].map(Command::Sample);
-    for (set, (_, settings)) in (4..16).flat_map(|set| both_forms().map(|form| (set, form))) {
+    for (set, form) in (4..16).flat_map(|set| FORMS.map(|form| (set, form))) {
         let commands = [Command::Automatic, Command::Set(set)].into_iter().chain(samples);
         let numbered = (1..).zip(commands);
         let list: Vec<Delivery> =
             numbered.map(|(number, command)| Delivery { number, command }).collect();
-        let written = program.run(settings.as_bytes(), &gen::deliveries_file(&list));
+        let written = program.run(form.c().as_bytes(), &gen::deliveries_file(&list));
         let answer = |(delivery, output): (&Delivery, i32)| {
             let (line, number) = (journal::delivery_line(delivery), delivery.number);
             format!("{line} code=0 output={output} last={number}\n")
@@ -75,7 +76,7 @@ fn the_sets_that_26_lines_leave_out_are_set_0() {
     }
 }
 
-/// Request 5's two forms: what the papers say of each edge, and not what the peer says.
+/// The four forms: what the papers say of each edge, and not what the peer says.
 #[test]
 fn settings_at_an_edge_are_taken_or_refused_as_the_papers_say() {
     let program = Program::new("journal");
@@ -89,14 +90,36 @@ fn settings_at_an_edge_are_taken_or_refused_as_the_papers_say() {
 fn there_are_sixteen_sets() {
     let program = Program::new("journal");
     let set = |k: i32| format!("number=1 command=set value={k} second=0");
-    for (_, settings) in both_forms() {
-        let answered = |k| program.run(settings.as_bytes(), (set(k) + "\n").as_bytes());
+    for form in FORMS {
+        let answered = |k| program.run(form.c().as_bytes(), (set(k) + "\n").as_bytes());
         for k in 0..16 {
             same("journal", &answered(k), &(set(k) + " code=0 output=100 last=1\n"));
         }
         for k in [16, 17, 256, i32::MAX, -1, -16, i32::MIN] {
             same("journal", &answered(k), &(set(k) + " code=9 output=100 last=0\n"));
         }
+    }
+}
+
+/// Request 7, by hand: what the papers say, and not what the peer says.
+#[test]
+fn only_kept_samples_enter_the_mean() {
+    let written =
+        Program::new("journal").run(short_c("mean=2").as_bytes(), &delivered_with_mean_2());
+    same("journal", &written, JOURNAL_WITH_MEAN_2);
+}
+
+/// Lists of every command whose kept samples fill the window more than twice.
+#[test]
+fn long_lists_of_each_mean_are_answered_alike() {
+    let program = Program::new("journal");
+    for mean in MEANS {
+        for_each_seed(20, |rng| {
+            let settings = Settings { mean, ..gen::settings(rng) };
+            let deliveries = gen::deliveries(rng, &settings, 1_000);
+            let text = gen::settings_text(rng, &settings);
+            journal_agrees(&program, &text, &gen::deliveries_file(&deliveries));
+        });
     }
 }
 
@@ -172,7 +195,7 @@ fn doubtful_settings_are_refused_alike() {
     let program = Program::new("journal");
     for_each_seed(200, |rng| {
         let settings = gen::doubtful_settings(rng);
-        let text = gen::either_form(rng, &settings);
+        let text = gen::any_form(rng, &settings);
         journal_agrees(&program, &text, b"number=1 command=hold value=0 second=0\n");
     });
 }

@@ -1,4 +1,4 @@
-//! 01, "The law, one command at a time", with the halves of request 3.
+//! 01, "The law, one command at a time", with the halves of request 3 and the window of request 7.
 
 use host::by_hand::{amounts, nearest, Amounts, Halves};
 use host::example;
@@ -39,6 +39,8 @@ fn a_fresh_loop_is_as_01_lists_it() {
         integral: 0,
         primed: false,
         y: 0,
+        window: [0; 128],
+        seen: 0,
         last: 0,
         last_command: None,
     };
@@ -130,10 +132,13 @@ fn the_gains_are_those_of_the_set_in_force() {
 }
 
 #[test]
-fn a_manual_sample_moves_setpoint_and_filter_only() {
+fn a_manual_sample_moves_setpoint_filter_and_window_only() {
     let aimed = after(example::fresh(), Command::Target { target: 400, rate: 30 });
     let sampled = after(aimed, Sample(480));
-    assert_eq!(sampled, Loop { w: 470, primed: true, y: 480 * Loop::F, ..aimed });
+    let mut window = [0; 128];
+    window[0] = 480;
+    let moved = Loop { w: 470, primed: true, y: 480 * Loop::F, window, seen: 1, ..aimed };
+    assert_eq!(sampled, moved);
 }
 
 /// "Adding the integral share on a transfer sample: the output jumps by ki × e."
@@ -211,6 +216,7 @@ fn a_transfer_sample_reaches_the_bound_exactly() {
         out: 1_000_000,
         sp: -1_000_000,
         rate: 1,
+        mean: 1,
         sets: [gains; 16],
     };
     let (code, fresh) = Loop::make(&settings);

@@ -114,6 +114,8 @@ fn replay_for(rng: &mut Rng, record: &Loop) -> Replay {
 
 /// A record from C in which all that a mirror flips is far from zero.
 fn a_record() -> Loop {
+    let mut window = [0; 128];
+    window[..3].copy_from_slice(&[480, -3, 1_000_000]);
     Loop {
         mode: Mode::Automatic,
         set: 2,
@@ -124,6 +126,8 @@ fn a_record() -> Loop {
         integral: 5_930_000,
         primed: true,
         y: 31_457_281,
+        window,
+        seen: 3,
         last: 7,
         last_command: Some(Put(113)),
         ..example::fresh()
@@ -154,6 +158,8 @@ fn the_mirror_of_the_temperatures_flips_what_the_request_names() {
     let record = a_record();
     let settings = Settings { lo: -1_000, hi: 0, out: -100, sp: -500, ..record.settings };
     assert_eq!(OfTemperatures.settings(&record.settings), settings);
+    let mut window = [0; 128];
+    window[..3].copy_from_slice(&[-480, 3, -1_000_000]);
     let mirrored = Loop {
         settings,
         w: -470,
@@ -161,6 +167,7 @@ fn the_mirror_of_the_temperatures_flips_what_the_request_names() {
         u: -113,
         integral: -5_930_000,
         y: -31_457_281,
+        window,
         last_command: Some(Put(-113)),
         ..record
     };
@@ -362,7 +369,7 @@ fn old_rule(x: i64) -> i64 {
 /// | new u, "away from zero" | -1 | 1 |
 #[test]
 fn an_oven_and_its_cooler_differ_by_one_under_the_old_rule_and_agree_under_the_new() {
-    let [_, _, half_in_the_output, _] = example::half_ovens();
+    let [_, _, half_in_the_output, ..] = example::half_ovens();
     let oven = half_in_the_output.settings;
     let cooler = OfAction.settings(&oven);
     assert_eq!(cooler, Settings { action: 1, ..oven });
@@ -381,8 +388,8 @@ fn an_oven_and_its_cooler_differ_by_one_under_the_old_rule_and_agree_under_the_n
     assert_eq!((written(&oven), written(&cooler)), ("0\n-1\n".into(), "0\n1\n".into()));
 }
 
-/// Each of the four ovens meets one half at its place, below zero, and its mirror of the
-/// temperatures one above.
+/// Each of the ovens meets one half at its place, below zero, and its mirror of the temperatures one
+/// above.
 #[test]
 fn a_half_at_each_place_shows_in_the_outputs_of_an_oven_and_its_mirrors() {
     let written = |settings: &Settings, samples: &[i32]| {

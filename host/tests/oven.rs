@@ -10,19 +10,25 @@ use host::gen;
 use host::law::{Command, Loop};
 use host::oven::{run, serve};
 use host::rng::for_each_seed;
-use papers::{both_forms, edges_told, full_c};
+use papers::{edges_told, full_c, mean_examples, short_c};
 
-/// The output with settings C, which is the same with each of its two texts.
+/// The output with settings C.
 fn with_c(samples: &str) -> String {
-    let [one, other] = both_forms().map(|(_, text)| run(text.as_bytes(), samples.as_bytes()));
-    assert_eq!(one, other);
-    one
+    papers::with_c(|settings| run(settings, samples.as_bytes()))
 }
 
 /// "With settings C and samples 480, 480, 478 the whole output is three lines: 100, 105, 113."
 #[test]
 fn the_example_of_01() {
     assert_eq!(with_c("480\n480\n478\n"), "100\n105\n113\n");
+}
+
+/// "C with mean=2, automatic, 480, 480, 470: 100, 105, 116", and others by hand.
+#[test]
+fn the_examples_of_the_mean() {
+    for (settings, samples, expected) in mean_examples() {
+        assert_eq!(run(settings.as_bytes(), samples), expected, "{settings}");
+    }
 }
 
 #[test]
@@ -81,10 +87,14 @@ fn refused_settings_end_the_run_before_any_sample() {
     assert_eq!(refused(format!("{C}x")), "refused 14 27\n");
     assert_eq!(refused(format!("{C}kp4=4194305\n")), "refused 15 27\n");
     assert_eq!(refused(format!("{}x", full_c())), "refused 17 0\n");
+    assert_eq!(refused(short_c("mean=0")), "refused 15 7\n");
+    assert_eq!(refused(short_c("mean=129")), "refused 15 7\n");
+    assert_eq!(refused(short_c("mean=1\nmean=1")), "refused 14 8\n");
+    assert_eq!(refused(short_c("mean=1") + "x"), "refused 14 28\n");
     assert_eq!(run(b"x", b""), "refused 14 1\n", "no samples, and yet told");
 }
 
-/// Settings C at an edge of its two forms are taken whole or refused.
+/// Settings C at an edge of its four forms are taken whole or refused.
 #[test]
 fn settings_at_an_edge_are_taken_or_refused_as_the_papers_say() {
     for (text, expected) in edges_told("100\n105\n113\n") {

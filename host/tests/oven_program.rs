@@ -6,9 +6,13 @@ mod common;
 mod papers;
 
 use common::{across_a_cut, for_each_seed, odd_lines, same, words_of_digits, Program};
+use host::by_hand::{Halves, PLACES};
 use host::rng::Rng;
+use host::settings::Settings;
 use host::{example, gen, oven, text};
-use papers::{both_forms, edges_told, first_lines, full_c, longest_text};
+use papers::{edges_told, full_c, longest_text, mean_examples, short_c, with_c};
+use papers::{FORMS, FULL, MEANS};
+use std::sync::Mutex;
 
 fn oven_agrees(program: &Program, settings: &[u8], samples: &[u8]) {
     same("oven", &program.run(settings, samples), &oven::run(settings, samples));
@@ -17,35 +21,71 @@ fn oven_agrees(program: &Program, settings: &[u8], samples: &[u8]) {
 #[test]
 fn the_example_of_01() {
     let program = Program::new("oven");
-    for (_, settings) in both_forms() {
-        assert_eq!(program.run(settings.as_bytes(), b"480\n480\n478\n"), b"100\n105\n113\n");
+    let written = with_c(|settings| {
+        String::from_utf8(program.run(settings, b"480\n480\n478\n")).expect("text")
+    });
+    assert_eq!(written, "100\n105\n113\n");
+}
+
+/// Request 7, by hand: what the papers say, and not what the peer says.
+#[test]
+fn the_examples_of_the_mean() {
+    let program = Program::new("oven");
+    for (settings, samples, expected) in mean_examples() {
+        same("oven", &program.run(settings.as_bytes(), samples), &expected);
     }
 }
 
-/// Request 5's two forms: what the papers say of each edge, and not what the peer says.
+/// Means over one temperature, over few, over one less than the window holds and over all; of more
+/// samples than two windows hold, of both signs, with halves.
+#[test]
+fn long_runs_of_each_mean_are_answered_alike() {
+    let program = Program::new("oven");
+    for mean in MEANS {
+        let halves = Mutex::new(Halves::default());
+        for_each_seed(30, |rng| {
+            let settings = Settings { mean, ..gen::settings(rng) };
+            let count = 300 + rng.below(300);
+            let samples = gen::samples(rng, &settings, count);
+            let text = gen::settings_text(rng, &settings);
+            oven_agrees(&program, &text, &gen::sample_file(&samples));
+            let mut halves = halves.lock().expect("no test has failed");
+            halves.add_list(&settings, &gen::sample_deliveries(&samples));
+        });
+        let Halves { above, below } = halves.into_inner().expect("no test has failed");
+        let of_the_mean = [above[PLACES - 1], below[PLACES - 1]];
+        let has_halves = mean % 2 == 0;
+        assert!(of_the_mean.iter().all(|&count| !has_halves || count > 5), "{of_the_mean:?}");
+    }
+}
+
+/// The four forms: what the papers say of each edge, and not what the peer says.
 #[test]
 fn settings_at_an_edge_are_taken_or_refused_as_the_papers_say() {
     let program = Program::new("oven");
     for (text, expected) in edges_told("100\n105\n113\n") {
         same("oven", &program.run(text.as_bytes(), b"480\n480\n478\n"), &expected);
     }
-    for lines in [26, 86] {
-        let longest = first_lines(&longest_text(), lines);
+    for form in FORMS {
+        let longest = form.of(&longest_text());
         same("oven", &program.run(longest.as_bytes(), b""), "");
     }
 }
 
-/// Settings C in 86 lines cut at each byte, and so in 26 too: "a full settings text cut exactly
-/// after the last line of set 3 is accepted, as the short form".
+/// Settings C in 86 and in 87 lines cut at each byte, and so in 26 and 27 too: "a full settings text
+/// cut exactly after the last line of set 3 is accepted, as the short form".
 #[test]
 fn settings_cut_anywhere_are_refused_where_they_stop() {
     let program = Program::new("oven");
-    let full = full_c();
-    for length in 0..full.len() {
-        let feeds = full[..length].matches('\n').count();
-        let refused = format!("refused 14 {}\n", feeds + 1);
-        let expected = if length == example::C.len() { "100\n" } else { &refused };
-        same("oven", &program.run(&full.as_bytes()[..length], b"480\n"), expected);
+    for form in FULL {
+        let full = form.c();
+        let set_3 = full.find("kp4=").expect("set 4");
+        for length in 0..full.len() {
+            let feeds = full[..length].matches('\n').count();
+            let refused = format!("refused 14 {}\n", feeds + 1);
+            let expected = if length == set_3 { "100\n" } else { &refused };
+            same("oven", &program.run(&full.as_bytes()[..length], b"480\n"), expected);
+        }
     }
 }
 
@@ -73,7 +113,7 @@ fn damaged_settings_are_refused_alike() {
     let program = Program::new("oven");
     for_each_seed(2_000, |rng| {
         let settings = gen::settings(rng);
-        let whole = gen::either_form(rng, &settings);
+        let whole = gen::any_form(rng, &settings);
         let damaged = gen::damaged(rng, &whole);
         oven_agrees(&program, &damaged, b"0\n1\n");
     });
@@ -121,6 +161,8 @@ fn words_of_any_length_are_answered_alike() {
             example::C.replace("kt3=0", &format!("kt3={word}")),
             format!("{}kp4={word}\n", example::C),
             full_c().replace("kt15=0", &format!("kt15={word}")),
+            short_c(&format!("mean={word}")),
+            format!("{}kp4={word}\n", short_c("mean=1")),
         ] {
             oven_agrees(&program, settings.as_bytes(), b"480\n");
         }
@@ -135,6 +177,8 @@ fn a_hundred_thousand_digits_are_14() {
     assert_eq!(program.run(settings.as_bytes(), b"480\n"), b"refused 14 3\n");
     let settings = format!("{}kp4={word}\n", example::C);
     assert_eq!(program.run(settings.as_bytes(), b"480\n"), b"refused 14 27\n");
+    let settings = short_c(&format!("mean={word}"));
+    assert_eq!(program.run(settings.as_bytes(), b"480\n"), b"refused 14 7\n");
     let settings = format!("{}kp16={word}\n", full_c());
     assert_eq!(program.run(settings.as_bytes(), b"480\n"), b"refused 17 0\n");
     let samples = format!("480\n{word}\n480\n");
@@ -144,9 +188,11 @@ fn a_hundred_thousand_digits_are_14() {
 #[test]
 fn a_day_of_samples_is_answered_alike() {
     let program = Program::new("oven");
-    let settings = example::settings();
-    let samples = gen::samples(&mut Rng::new(864), &settings, 864_000);
-    oven_agrees(&program, text::lines_of(&settings).as_bytes(), &gen::sample_file(&samples));
+    for mean in [1, 128] {
+        let settings = Settings { mean, ..example::settings() };
+        let samples = gen::samples(&mut Rng::new(864), &settings, 864_000);
+        oven_agrees(&program, text::lines_of(&settings).as_bytes(), &gen::sample_file(&samples));
+    }
 }
 
 #[test]

@@ -12,7 +12,7 @@ use host::refusal::{code, Refusal};
 use host::replay::{replay, Replayed};
 use host::settings::Settings;
 use host::text;
-use papers::full_c;
+use papers::{full_c, FORMS, FULL, SHORT};
 use Command::{Automatic, Hold, Put, Sample, Set};
 
 /// The code of one delivery to a loop from C that has kept these commands.
@@ -132,6 +132,12 @@ fn making_is_refused_in_order() {
     assert_eq!(make(Settings { out: -1, ..good }), 16);
     assert_eq!(make(Settings { out: 1_001, ..good }), 16);
     assert_eq!(make(Settings { out: 1_000_001, ..good }), 11);
+    for mean in [0, 129, -1, i32::MIN, i32::MAX] {
+        assert_eq!(make(Settings { mean, ..good }), 11, "mean {mean}");
+        assert_eq!(make(Settings { mean, lo: 1_000, ..good }), 11, "11 before 16");
+    }
+    assert_eq!(make(Settings { mean: 128, lo: 1_000, ..good }), 16);
+    assert_eq!(make(Settings { mean: 128, ..good }), 0);
     assert_eq!(make(Settings { out: 0, ..good }), 0);
     assert_eq!(make(Settings { out: 1_000, ..good }), 0);
 }
@@ -150,8 +156,12 @@ fn writing_is_refused_in_order() {
     let all = Settings { hi: -1, sp: i32::MIN, ..good };
     assert_eq!(write(all, 0), 11);
     assert_eq!(write(Settings { sp: 0, ..all }, 0), 16);
+    assert_eq!(write(Settings { mean: 0, ..good }, 0), 11);
+    assert_eq!(write(Settings { mean: 129, ..good }, 0), 11);
     assert_eq!(write(good, 0), 18);
-    assert_eq!(write(good, C.len()), 18, "no short form is written");
+    for form in &FORMS[..3] {
+        assert_eq!(write(good, form.c().len()), 18, "no shorter form is written");
+    }
     assert_eq!(write(good, full_c().len() - 1), 18);
     assert_eq!(write(good, full_c().len()), 0);
 }
@@ -168,28 +178,48 @@ fn reading_is_refused_in_order() {
     assert_eq!(read("action=2\n"), (15, 1));
     assert_eq!(read("action=2\nx\n"), (15, 1), "an earlier line comes first");
     assert_eq!(read("action=x\nlo=1000001\n"), (14, 1));
-    let limits = with(&full_c(), "hi=1000", "hi=0");
-    assert_eq!(read(&limits), (16, 0));
-    let and_bytes = limits + "x";
-    assert_eq!(read(&and_bytes), (17, 0), "17 before 16");
-    let and_value = with(&and_bytes, "kt15=0", "kt15=65537");
-    assert_eq!(read(&and_value), (15, 86), "15 before 17");
-    let and_form = with(&and_value, "kp15=65536", "kp15=");
-    assert_eq!(read(&and_form), (14, 82), "an earlier line comes first");
+    for form in FULL {
+        let limits = with(&form.c(), "hi=1000", "hi=0");
+        assert_eq!(read(&limits), (16, 0));
+        let and_bytes = limits + "x";
+        assert_eq!(read(&and_bytes), (17, 0), "17 before 16");
+        let and_value = with(&and_bytes, "kt15=0", "kt15=65537");
+        assert_eq!(read(&and_value), (15, form.lines), "15 before 17");
+        let and_form = with(&and_value, "kp15=65536", "kp15=");
+        assert_eq!(read(&and_form), (14, form.line(82)), "an earlier line comes first");
+    }
 }
 
-/// "26 lines with lo = hi are 16; the same and one more byte are 14 at 27", and never 17.
+/// "tested there": the mean is refused before what stands after it, and after what stands before it.
+#[test]
+fn the_mean_is_refused_in_its_place() {
+    for form in FORMS.into_iter().filter(|form| form.mean) {
+        let mean = with(&form.c(), "mean=1", "mean=129");
+        assert_eq!(read(&mean), (15, 7));
+        assert_eq!(read(&with(&mean, "kp0=65536", "kp0=")), (15, 7), "an earlier line comes first");
+        assert_eq!(read(&with(&mean, "rate=50", "rate=0")), (15, 6));
+        assert_eq!(read(&with(&mean, "hi=1000", "hi=0")), (15, 7), "15 before 16");
+        assert_eq!(read(&(mean + "x")), (15, 7), "15 before 17");
+        assert_eq!(read(&with(&form.c(), "mean=1", "mean=129x")), (14, 7), "14 before 15");
+    }
+}
+
+/// "26 lines with lo = hi are 16; the same and one more byte are 14 at 27", and never 17; "with the
+/// line request 5's 26 and 27 are one more".
 #[test]
 fn reading_the_short_form_is_refused_in_order() {
-    let limits = with(C, "hi=1000", "hi=0");
-    assert_eq!(read(&limits), (16, 0));
-    let and_bytes = limits + "x";
-    assert_eq!(read(&and_bytes), (14, 27), "14 before 16");
-    let and_value = with(&and_bytes, "kt3=0", "kt3=65537");
-    assert_eq!(read(&and_value), (15, 26), "an earlier line comes first");
-    assert_eq!(read(&format!("{C}kp4=4194305")), (14, 27), "14 before 15");
-    assert_eq!(read(&format!("{C}kp4=4194305\n")), (15, 27));
-    assert_eq!(read(&format!("{C}kp4=4194304\n")), (14, 28));
+    for form in SHORT {
+        let (c, last) = (form.c(), form.lines);
+        let limits = with(&c, "hi=1000", "hi=0");
+        assert_eq!(read(&limits), (16, 0));
+        let and_bytes = limits + "x";
+        assert_eq!(read(&and_bytes), (14, last + 1), "14 before 16");
+        let and_value = with(&and_bytes, "kt3=0", "kt3=65537");
+        assert_eq!(read(&and_value), (15, last), "an earlier line comes first");
+        assert_eq!(read(&format!("{c}kp4=4194305")), (14, last + 1), "14 before 15");
+        assert_eq!(read(&format!("{c}kp4=4194305\n")), (15, last + 1));
+        assert_eq!(read(&format!("{c}kp4=4194304\n")), (14, last + 2));
+    }
 }
 
 /// "Raise four to sixteen, so code 9 starts at 16"; "Negative set numbers stay 9."

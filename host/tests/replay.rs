@@ -6,6 +6,7 @@ use host::gen;
 use host::law::{Command, Loop};
 use host::replay::{replay, Replayed};
 use host::rng::{for_each_seed, Rng};
+use host::settings::Settings;
 
 fn done(count: usize) -> Replayed {
     Replayed { code: 0, place: 0, count }
@@ -22,6 +23,23 @@ fn samples_for(rng: &mut Rng, record: &Loop, most: usize) -> Vec<i32> {
     gen::samples(rng, &record.settings, count)
 }
 
+/// "C with mean=2, automatic, 480, 480, 470: 100, 105, 116", replayed as one and cut anywhere.
+#[test]
+fn the_mean_goes_on_from_one_replay_to_the_next() {
+    let samples = [480, 480, 470];
+    for cut in 0..=3 {
+        let mut record = Loop::make(&Settings { mean: 2, ..example::settings() }).1;
+        deliver(&mut record, 1, Command::Automatic);
+        let mut outputs = [-7; 3];
+        let (front, back) = outputs.split_at_mut(cut);
+        assert_eq!(replay(&mut record, 2, &samples[..cut], front), done(cut));
+        let next = record.last + 1;
+        assert_eq!(replay(&mut record, next, &samples[cut..], back), done(3 - cut));
+        assert_eq!(outputs, [100, 105, 116], "cut at {cut}");
+        assert_eq!((&record.window[..4], record.seen), (&[470, 480, 480, 0][..], 3));
+    }
+}
+
 /// The log's samples 480, 480, 478 in automatic, replayed as one.
 #[test]
 fn the_example_of_01() {
@@ -35,13 +53,17 @@ fn the_example_of_01() {
     assert_eq!((record.last, record.last_command), (4, Some(Command::Sample(478))));
 }
 
-/// "On success the record and outputs are those of delivering the n samples in order"
+/// "On success the record and outputs are those of delivering the n samples in order", the window
+/// and its count in the record: of fewer samples than the mean is over, and of more than two windows
+/// hold.
 #[test]
 fn a_replay_equals_single_deliveries() {
-    let mut kept = 0;
+    let (mut kept, mut past) = (0, 0);
     for_each_seed(2_000, |rng| {
         let start = gen::record(rng);
-        let samples = samples_for(rng, &start, 60);
+        let most = rng.pick(&[5, 60, 300]);
+        let samples = samples_for(rng, &start, most);
+        past += usize::from(samples.len() > 128 && start.settings.mean > 1);
         let spare = rng.below(4);
         let mut one_by_one = start;
         let mut expected = Vec::new();
@@ -64,7 +86,7 @@ fn a_replay_equals_single_deliveries() {
         assert_eq!((replayed, outputs), (one_by_one, expected));
         kept += samples.len();
     });
-    assert!(kept > 10_000, "{kept} kept");
+    assert!(kept > 10_000 && past > 50, "{kept} kept, {past} past a window");
 }
 
 /// "A replay that kept at least one sample and is sent again whole is refused 1, also when n was

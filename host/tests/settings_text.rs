@@ -1,5 +1,5 @@
-//! 01, "Settings text", in the two forms of request 5: every edge that they name, and both round
-//! trips.
+//! 01, "Settings text", in the four forms of requests 5 and 7: every edge that they name, and both
+//! round trips.
 
 // What the programs write of the settings text is the matter of other tests.
 #[allow(dead_code)]
@@ -10,7 +10,8 @@ use host::gen;
 use host::rng::for_each_seed;
 use host::settings::{GainSet, Settings};
 use host::text::{lines_of, read, write, Reading, Writing};
-use papers::{both_forms, edges, first_lines, full_c, keys, longest_text, range, with_line};
+use papers::{edges, first_lines, full_c, keys, longest_text, range, short_c, with_line};
+use papers::{Form, FORMS, FULL, SHORT};
 
 /// The code and line of a refused text; what stands beside them is blank.
 fn refused(text: &[u8]) -> (i32, usize) {
@@ -22,7 +23,7 @@ fn refused(text: &[u8]) -> (i32, usize) {
 
 /// What the writer gives for settings that it has to take.
 fn written(settings: &Settings) -> String {
-    let mut buffer = [0; 1_044];
+    let mut buffer = [0; 1_053];
     let writing = write(settings, &mut buffer);
     assert_eq!(writing.code, 0, "{settings:?}");
     String::from_utf8(buffer[..writing.length].to_vec()).expect("text")
@@ -38,52 +39,78 @@ fn longest() -> Settings {
         out: -1_000_000,
         sp: -1_000_000,
         rate: 2_000_000,
+        mean: 128,
         sets: [gains; 16],
     }
 }
 
-/// "Writing always gives 86 lines": those of 01's C come first, and then set 0 twelve times more.
+/// "Writing always gives 86 lines", and with that of the mean one more: 01's C comes first, and then
+/// set 0 twelve times more.
 #[test]
-fn settings_c_is_read_in_both_forms_and_written_in_86_lines() {
+fn settings_c_is_read_in_each_form_and_written_in_87_lines() {
     assert_eq!((C.matches('\n').count(), C.len()), (26, 230));
-    assert_eq!((full_c().matches('\n').count(), full_c().len()), (86, 800));
-    for (_, text) in both_forms() {
+    for (form, bytes) in FORMS.into_iter().zip([230, 237, 800, 807]) {
+        let text = form.c();
+        assert_eq!((text.matches('\n').count(), text.len()), (form.lines, bytes));
         let reading = read(text.as_bytes());
         assert_eq!(reading, Reading { code: 0, line: 0, settings: example::settings() });
         let mut buffer = [b'#'; 1_100];
         let writing = write(&reading.settings, &mut buffer);
-        assert_eq!(writing, Writing { code: 0, length: 800 });
-        assert_eq!(&buffer[..800], full_c().as_bytes());
-        assert!(buffer[800..].iter().all(|&byte| byte == b'#'), "bytes after the text are left");
+        assert_eq!(writing, Writing { code: 0, length: 807 });
+        assert_eq!(&buffer[..807], full_c().as_bytes());
+        assert!(buffer[807..].iter().all(|&byte| byte == b'#'), "bytes after the text are left");
     }
 }
 
-/// "A text that ends after 26 lines is still read, with sets 4 to 15 equal to set 0."
+/// "A text that ends after 26 lines is still read, with sets 4 to 15 equal to set 0", and "a text
+/// whose line after rate begins with kp0 is read as mean 1". Short forms are "written full".
 #[test]
-fn a_text_of_26_lines_has_sets_4_to_15_equal_to_set_0() {
-    let mut others = 0;
+fn what_a_text_leaves_out_is_set_0_and_mean_1() {
+    let (mut other_sets, mut other_means) = (0, 0);
     for_each_seed(3_000, |rng| {
         let settings = gen::settings(rng);
-        let mut expected = settings;
-        for k in 4..=15 {
-            others += usize::from(settings.sets[k] != settings.sets[0]);
-            expected.sets[k] = settings.sets[0];
+        let every_line = lines_of(&settings);
+        for form in FORMS {
+            let mut expected = settings;
+            if SHORT.contains(&form) {
+                other_sets += usize::from(settings.sets[4..] != [settings.sets[0]; 12]);
+                expected.sets[4..].fill(settings.sets[0]);
+            }
+            if !form.mean {
+                other_means += usize::from(settings.mean != 1);
+                expected.mean = 1;
+            }
+            let text = form.of(&every_line);
+            let reading = read(text.as_bytes());
+            assert_eq!(reading, Reading { code: 0, line: 0, settings: expected });
+            let long = written(&reading.settings);
+            assert_eq!(long.matches('\n').count(), 87);
+            assert_eq!(form.of(&long), text);
+            assert_eq!(read(long.as_bytes()), reading, "written and read again");
         }
-        let short = first_lines(&lines_of(&settings), 26);
-        let reading = read(short.as_bytes());
-        assert_eq!(reading, Reading { code: 0, line: 0, settings: expected });
-        let long = written(&reading.settings);
-        assert_eq!(long.matches('\n').count(), 86);
-        assert_eq!(first_lines(&long, 26), short);
-        assert_eq!(read(long.as_bytes()), reading, "written and read again");
     });
-    assert!(others > 10_000, "{others} sets that the short form leaves out");
+    assert!(other_sets > 2_000, "{other_sets} texts that leave out other sets");
+    assert!(other_means > 2_000, "{other_means} texts that leave out another mean");
 }
 
-/// Each set of an 86-line text has the values of its own lines: here each its line's number, but
+/// Each mean from 1 to 128 is read from its line, in either form that has it, and written back.
+#[test]
+fn each_mean_from_1_to_128_is_read_and_written() {
+    for mean in 1..=128 {
+        let expected = Settings { mean, ..example::settings() };
+        let line = format!("mean={mean}");
+        let full = full_c().replace("mean=1", &line);
+        for text in [short_c(&line), full.clone()] {
+            assert_eq!(read(text.as_bytes()).settings, expected);
+        }
+        assert_eq!(written(&expected), full);
+    }
+}
+
+/// Each set of a text of 87 lines has the values of its own lines: here each its line's number, but
 /// for lo and out, which have to keep to 01's order.
 #[test]
-fn each_of_the_86_lines_says_its_own_value() {
+fn each_of_the_87_lines_says_its_own_value() {
     let line = |(number, key): (i32, String)| match key.as_str() {
         "lo" | "out" => format!("{key}={}\n", -number),
         _ => format!("{key}={number}\n"),
@@ -92,10 +119,10 @@ fn each_of_the_86_lines_says_its_own_value() {
     let text = text.replace("lo=-2\n", "lo=-1000000\n");
     let Reading { code, settings, .. } = read(text.as_bytes());
     assert_eq!(code, 0, "{text}");
-    let Settings { action, lo, hi, out, sp, rate, sets } = settings;
-    assert_eq!([action, lo, hi, out, sp, rate], [1, -1_000_000, 3, -4, 5, 6]);
+    let Settings { action, lo, hi, out, sp, rate, mean, sets } = settings;
+    assert_eq!([action, lo, hi, out, sp, rate, mean], [1, -1_000_000, 3, -4, 5, 6, 7]);
     for (k, set) in (0..16).zip(sets) {
-        let at = 7 + 5 * k;
+        let at = 8 + 5 * k;
         let own = GainSet { kp: at, ki: at + 1, kd: at + 2, alpha: at + 3, kt: at + 4 };
         assert_eq!(set, own, "set {k}");
     }
@@ -107,31 +134,28 @@ fn each_of_the_86_lines_says_its_own_value() {
 /// 31 lines are 14 at line 32."
 #[test]
 fn a_text_that_stops_early_is_14_where_it_stops() {
-    let full = full_c();
     assert_eq!(refused(b""), (14, 1));
     assert_eq!(refused(first_lines(C, 5).as_bytes()), (14, 6));
-    assert_eq!(refused(first_lines(&full, 31).as_bytes()), (14, 32));
-    for count in (0..26).chain(27..86) {
-        assert_eq!(refused(first_lines(&full, count).as_bytes()), (14, count + 1));
-    }
-    for (lines, text) in both_forms() {
+    assert_eq!(refused(first_lines(C, 6).as_bytes()), (14, 7));
+    for form in FORMS {
+        let (text, last) = (form.c(), form.line(26));
         for length in 0..text.len() {
             let feeds = text[..length].matches('\n').count();
             let cut = &text.as_bytes()[..length];
-            if length == C.len() {
-                assert_eq!((lines, feeds), (86, 26));
-                assert_eq!(read(cut).settings, example::settings(), "it is the short form");
+            if feeds == last && text[..length].ends_with('\n') {
+                assert!(FULL.contains(&form));
+                assert_eq!(read(cut).settings, example::settings(), "it is a short form");
             } else {
-                assert_eq!(refused(cut), (14, feeds + 1), "{lines} lines, cut at {length}");
+                assert_eq!(refused(cut), (14, feeds + 1), "{form:?}, cut at {length}");
             }
         }
-        assert_eq!(read(first_lines(&text, lines).as_bytes()).code, 0);
+        assert_eq!(read(text.as_bytes()).code, 0);
     }
 }
 
-/// What the papers answer at every edge of both forms.
+/// What the papers answer at every edge of the forms.
 #[test]
-fn each_edge_of_the_two_forms_is_answered_as_the_papers_say() {
+fn each_edge_of_the_four_forms_is_answered_as_the_papers_say() {
     for (text, code, line) in edges() {
         let reading = read(text.as_bytes());
         assert_eq!((reading.code, reading.line), (code, line), "{}", text.escape_debug());
@@ -187,18 +211,23 @@ const NO_LO: [&[u8]; 40] = [
 #[test]
 fn lines_of_wrong_form_are_14() {
     for line in NO_LO {
-        for (_, text) in both_forms() {
-            assert_eq!(refused(&with_line(&text, 2, line)), (14, 2), "{}", line.escape_ascii());
+        for form in FORMS {
+            assert_eq!(refused(&with_line(&form.c(), 2, line)), (14, 2), "{}", line.escape_ascii());
         }
-        let line = String::from_utf8_lossy(line).replace("lo", "kt15");
-        let damaged = with_line(&full_c(), 86, line.as_bytes());
-        assert_eq!(refused(&damaged), (14, 86), "{line}");
+        let line = String::from_utf8_lossy(line);
+        for form in FULL {
+            let damaged = with_line(&form.c(), form.lines, line.replace("lo", "kt15").as_bytes());
+            assert_eq!(refused(&damaged), (14, form.lines), "{line}");
+        }
+        let damaged = with_line(&full_c(), 7, line.replace("lo", "mean").as_bytes());
+        assert_eq!(refused(&damaged), (14, 7), "{line}");
     }
 }
 
 #[test]
 fn line_ends_are_one_line_feed() {
-    for (lines, text) in both_forms() {
+    for form in FORMS {
+        let (text, lines) = (form.c(), form.lines);
         assert_eq!(refused(text.replace('\n', "\r\n").as_bytes()), (14, 1));
         assert_eq!(refused(text.replace('\n', "\r").as_bytes()), (14, 1));
         assert_eq!(refused(text.replace('\n', "\n\n").as_bytes()), (14, 2));
@@ -215,28 +244,36 @@ fn line_ends_are_one_line_feed() {
 
 #[test]
 fn keys_stand_in_one_order() {
-    for (_, text) in both_forms() {
-        let refused = |from: &str, to: &str| refused(text.replacen(from, to, 1).as_bytes());
-        assert_eq!(refused("lo=0\nhi=1000\n", "hi=1000\nlo=0\n"), (14, 2));
-        assert_eq!(refused("sp=500\n", ""), (14, 5));
-        assert_eq!(refused("sp=500\n", "sp=500\nsp=500\n"), (14, 6));
-        assert_eq!(refused("kp1=", "kp0="), (14, 12));
-        assert_eq!(refused("kp3=", "kp4="), (14, 22));
+    let refused = |form: Form, from: &str, to: &str| {
+        assert!(form.c().contains(from), "{form:?} has no {from}");
+        refused(form.c().replacen(from, to, 1).as_bytes())
+    };
+    for form in FORMS {
+        assert_eq!(refused(form, "lo=0\nhi=1000\n", "hi=1000\nlo=0\n"), (14, 2));
+        assert_eq!(refused(form, "sp=500\n", ""), (14, 5));
+        assert_eq!(refused(form, "sp=500\n", "sp=500\nsp=500\n"), (14, 6));
+        assert_eq!(refused(form, "kp1=", "kp0="), (14, form.line(12)));
+        assert_eq!(refused(form, "kp3=", "kp4="), (14, form.line(22)));
     }
-    let refused = |from: &str, to: &str| refused(full_c().replacen(from, to, 1).as_bytes());
-    assert_eq!(refused("kp4=65536\n", ""), (14, 27));
-    assert_eq!(refused("kp9=", "kp10="), (14, 52));
-    assert_eq!(refused("kt15=", "kt16="), (14, 86));
+    for form in FULL {
+        assert_eq!(refused(form, "kp4=65536\n", ""), (14, form.line(27)));
+        assert_eq!(refused(form, "kp9=", "kp10="), (14, form.line(52)));
+        assert_eq!(refused(form, "kt15=", "kt16="), (14, form.line(86)));
+    }
 }
 
-/// Each line of each form in the place of each other one is 14 at the first of the two.
+/// Each line of each form in the place of each other one is 14 at the first of the two, but kp0 in
+/// the place of the mean: that is a text without the mean, in which the next line is of wrong form.
 #[test]
 fn two_lines_that_change_places_are_14_at_the_first() {
-    for (lines, text) in both_forms() {
+    for form in FORMS {
+        let (text, lines) = (form.c(), form.lines);
         for (one, other) in (0..lines).flat_map(|one| (one + 1..lines).map(move |o| (one, o))) {
             let mut split: Vec<&str> = text.split_inclusive('\n').collect();
             split.swap(one, other);
-            assert_eq!(refused(split.concat().as_bytes()), (14, one + 1), "{one} and {other}");
+            let kp0_after_rate = form.mean && (one, other) == (6, 7);
+            let line = if kp0_after_rate { 8 } else { one + 1 };
+            assert_eq!(refused(split.concat().as_bytes()), (14, line), "{one} and {other}");
         }
     }
 }
@@ -246,24 +283,24 @@ fn two_lines_that_change_places_are_14_at_the_first() {
 fn sets_stand_in_the_order_of_their_numbers() {
     let full = full_c();
     let mut split: Vec<&str> = full.split_inclusive('\n').collect();
-    let sets = split.split_off(6);
+    let sets = split.split_off(7);
     let mut by_letters: Vec<(String, &[&str])> =
         (0..16).map(|k: usize| k.to_string()).zip(sets.chunks(5)).collect();
     by_letters.sort();
     for (_, lines) in by_letters {
         split.extend(lines);
     }
-    assert_eq!((split.len(), split[11], split[16]), (86, "kp1=131072\n", "kp10=65536\n"));
-    assert_eq!(refused(split.concat().as_bytes()), (14, 17));
+    assert_eq!((split.len(), split[12], split[17]), (87, "kp1=131072\n", "kp10=65536\n"));
+    assert_eq!(refused(split.concat().as_bytes()), (14, 18));
 }
 
 /// "Eight digits are 14, and seven that are too large are 15."
 #[test]
 fn seven_digits_too_large_are_15_and_eight_14() {
-    for (lines, text) in both_forms() {
-        for (number, key) in (1..=lines).zip(keys()) {
+    for form in FORMS {
+        for (number, key) in (1..).zip(form.keys()) {
             let with = |value: &str| {
-                refused(&with_line(&text, number, format!("{key}={value}").as_bytes()))
+                refused(&with_line(&form.c(), number, format!("{key}={value}").as_bytes()))
             };
             assert_eq!(with("9999999"), (15, number));
             assert_eq!(with("-9999999"), (15, number));
@@ -276,9 +313,9 @@ fn seven_digits_too_large_are_15_and_eight_14() {
 /// Every row's ends are in range, and one past them is 15 at its line, in each set.
 #[test]
 fn every_range_ends_where_the_table_says() {
-    let long = longest_text();
-    for (lines, text) in [(26, first_lines(&long, 26)), (86, long)] {
-        for (number, key) in (1..=lines).zip(keys()) {
+    for form in FORMS {
+        let text = form.of(&longest_text());
+        for (number, key) in (1..).zip(form.keys()) {
             let with = |value: i32| with_line(&text, number, format!("{key}={value}").as_bytes());
             let (least, most) = range(&key);
             for past in [least - 1, most + 1] {
@@ -298,10 +335,10 @@ fn every_range_ends_where_the_table_says() {
 /// "For out, codes 11 and 15 use ±1,000,000; its place between lo and hi is code 16's matter."
 #[test]
 fn limits_out_of_order_are_16() {
-    for lines in [26, 86] {
+    for form in FORMS {
         let with = |lo: i32, hi: i32, out: i32| {
             let settings = Settings { lo, hi, out, ..example::settings() };
-            first_lines(&lines_of(&settings), lines).into_bytes()
+            form.of(&lines_of(&settings)).into_bytes()
         };
         assert_eq!(refused(&with(7, 7, 7)), (16, 0), "lo = hi");
         assert_eq!(refused(&with(8, 7, 7)), (16, 0));
@@ -315,20 +352,22 @@ fn limits_out_of_order_are_16() {
 }
 
 /// "1,044 bytes bounds accepted texts (1,045 pass every line and are 16)", and with one more they
-/// are 17. So is the short form bounded by 01's 306; with one byte more its 307 are 14 at line 27.
+/// are 17; with the mean it is 1,053. So is the short form bounded by 01's 306, and with the mean by
+/// 315; with one byte more its 307, or 316, are 14 at the line after.
 #[test]
 fn the_longest_texts() {
-    let long = longest_text();
-    assert_eq!(written(&longest()), long);
-    let short = first_lines(&long, 26);
-    for (text, bytes, after) in [(short, 306, (14, 27)), (long, 1_044, (17, 0))] {
-        assert_eq!(text.len(), bytes);
-        let reading = read(text.as_bytes());
-        assert_eq!(reading, Reading { code: 0, line: 0, settings: longest() });
+    assert_eq!(written(&longest()), longest_text());
+    for form in FORMS {
+        let text = form.of(&longest_text());
+        assert_eq!(text.len(), form.bytes);
+        let mean = if form.mean { 128 } else { 1 };
+        let settings = Settings { mean, ..longest() };
+        assert_eq!(read(text.as_bytes()), Reading { code: 0, line: 0, settings });
+        let after = if FULL.contains(&form) { (17, 0) } else { (14, form.lines + 1) };
         assert_eq!(refused(format!("{text}1").as_bytes()), after);
 
         let too_long = text.replace("hi=-999999\n", "hi=-1000000\n");
-        assert_eq!(too_long.len(), bytes + 1);
+        assert_eq!(too_long.len(), form.bytes + 1);
         assert_eq!(refused(too_long.as_bytes()), (16, 0));
         for byte in ["1", "\n", "k"] {
             assert_eq!(refused(format!("{too_long}{byte}").as_bytes()), after);
@@ -336,7 +375,7 @@ fn the_longest_texts() {
     }
     for_each_seed(3_000, |rng| {
         let text = lines_of(&gen::settings(rng));
-        assert!(text.len() <= 1_044 && first_lines(&text, 26).len() <= 306);
+        assert!(FORMS.iter().all(|form| form.of(&text).len() <= form.bytes));
     });
 }
 
@@ -345,7 +384,7 @@ fn the_longest_texts() {
 fn the_buffer_has_to_hold_this_text() {
     for settings in [example::settings(), longest()] {
         let text = lines_of(&settings);
-        for length in [0, 1, 230, 306, text.len() - 1] {
+        for length in [0, 1, 230, 315, text.len() - 1] {
             let mut buffer = vec![b'#'; length];
             let refusal = Writing { code: 18, length: 0 };
             assert_eq!(write(&settings, &mut buffer), refusal);
@@ -363,7 +402,7 @@ fn settings_written_are_read_back() {
     for_each_seed(5_000, |rng| {
         let settings = gen::settings(rng);
         let spare = rng.below(20);
-        let mut buffer = vec![b'#'; 1_044 + spare];
+        let mut buffer = vec![b'#'; 1_053 + spare];
         let writing = write(&settings, &mut buffer);
         assert_eq!(writing.code, 0);
         assert!(buffer[writing.length..].iter().all(|&byte| byte == b'#'));
@@ -382,14 +421,20 @@ fn printed_number(line: &[u8], key: &str) -> Option<i32> {
     Some(number).filter(|_| as_printed)
 }
 
+/// The form that a text has so far as it goes: "a text whose line after rate begins with kp0" has no
+/// line of the mean, and one that ends after set 3 no more sets.
+fn form_of(text: &[u8]) -> Form {
+    let lines: Vec<&[u8]> = text.split_inclusive(|&byte| byte == b'\n').collect();
+    let mean = !lines.get(6).map_or(false, |line| line.starts_with(b"kp0"));
+    let forms = if lines.len() > 26 + usize::from(mean) { FULL } else { SHORT };
+    forms[usize::from(mean)]
+}
+
 /// The code and line of a text, in another way than the peer's: line by line, so long as there are
 /// bytes left.
 fn answer_of(text: &[u8]) -> (i32, usize) {
     let (mut rest, mut values) = (text, Vec::new());
-    for (line, key) in (1..).zip(keys()) {
-        if line == 27 && rest.is_empty() {
-            break;
-        }
+    for (line, key) in (1..).zip(form_of(text).keys()) {
         let end = rest.iter().position(|&byte| byte == b'\n');
         match end.and_then(|end| printed_number(&rest[..end], &key)) {
             None => return (14, line),
@@ -405,34 +450,33 @@ fn answer_of(text: &[u8]) -> (i32, usize) {
     }
 }
 
-/// "Settings read from text are written back as the same bytes", which "speaks of 86-line texts
-/// only": the text of 86 lines whose first 26 a short one is has sets 4 to 15 equal to set 0.
+/// "Settings read from text are written back as the same bytes", and "same bytes are claimed only
+/// for texts that have every line"; of any other the same lines are written, and those that it
+/// leaves out.
 #[test]
 fn damaged_texts_are_refused_or_written_back() {
-    let mut codes = [[0; 18]; 2];
+    let mut codes = [[0; 18]; 4];
     for_each_seed(60_000, |rng| {
         let settings = gen::settings(rng);
-        let whole = gen::either_form(rng, &settings);
+        let whole = gen::any_form(rng, &settings);
         let text = gen::damaged(rng, &whole);
         let reading = read(&text);
         assert_eq!((reading.code, reading.line), answer_of(&text), "{}", text.escape_ascii());
-        let short = text.iter().filter(|&&byte| byte == b'\n').count() <= 26;
-        codes[usize::from(short)][reading.code as usize] += 1;
-        if reading.code != 0 {
-            assert_eq!(reading.settings, Settings::default());
-        } else if short {
-            let long = written(&reading.settings).into_bytes();
-            assert_eq!(long[..text.len()], text);
-            assert_eq!(long.iter().filter(|&&byte| byte == b'\n').count(), 86);
-            assert_eq!(reading.settings.sets[4..], [reading.settings.sets[0]; 12]);
+        let form = form_of(&text);
+        let place = FORMS.iter().position(|&other| other == form).expect("one of the four");
+        codes[place][reading.code as usize] += 1;
+        if reading.code == 0 {
+            let long = written(&reading.settings);
+            assert_eq!(long.matches('\n').count(), 87);
+            assert_eq!(form.of(&long).into_bytes(), text);
+            assert!(form.mean || reading.settings.mean == 1);
         } else {
-            assert_eq!(written(&reading.settings).into_bytes(), text);
+            assert_eq!(reading.settings, Settings::default());
         }
     });
-    for (form, reached) in [(0, &[0, 14, 15, 16, 17][..]), (1, &[0, 14, 15, 16])] {
-        for &code in reached {
-            assert!(codes[form][code] > 100, "code {code} of {:?}", codes[form]);
-        }
+    for (form, codes) in FORMS.iter().zip(codes) {
+        assert!([0, 14, 15, 16].iter().all(|&code| codes[code] > 30), "{form:?}: {codes:?}");
+        let after_the_last_line = if FULL.contains(form) { codes[17] > 30 } else { codes[17] == 0 };
+        assert!(after_the_last_line, "{form:?}: {codes:?}");
     }
-    assert_eq!(codes[1][17], 0, "nothing of at most 26 lines is 17");
 }

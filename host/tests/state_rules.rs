@@ -1,4 +1,4 @@
-//! 01's state rules: each by itself, at its ends, and over unreached records.
+//! 01's state rules and those of request 7: each by itself, at its ends, and over unreached records.
 
 use host::delivery::{deliver, Answer};
 use host::example;
@@ -9,9 +9,13 @@ use host::replay::{replay, Replayed};
 use host::rng::for_each_seed;
 use host::settings::GainSet;
 
-/// A valid automatic record, primed, that remembers a command.
+/// A valid automatic record, primed, that has seen three temperatures and remembers a command.
 fn valid() -> Loop {
+    let mut window = [0; 128];
+    window[..3].fill(480);
     Loop {
+        window,
+        seen: 3,
         mode: Mode::Automatic,
         primed: true,
         y: 480 * Loop::F,
@@ -29,7 +33,7 @@ fn with(change: fn(&mut Loop)) -> Loop {
 
 /// Records that break one rule each.
 fn broken() -> Vec<Loop> {
-    [broken_settings(), broken_state()].concat()
+    [broken_settings(), broken_state(), broken_window()].concat()
 }
 
 /// Those that break "settings within the table".
@@ -45,6 +49,11 @@ fn broken_settings() -> Vec<Loop> {
         with(|l| l.settings.out = 1_001),
         with(|l| l.settings.sp = 1_000_001),
         with(|l| l.settings.rate = 0),
+        with(|l| l.settings.mean = 0),
+        with(|l| l.settings.mean = 129),
+        with(|l| l.settings.mean = -1),
+        with(|l| l.settings.mean = i32::MIN),
+        with(|l| l.settings.mean = i32::MAX),
         with(|l| l.settings.sets[3].kp = -1),
         with(|l| l.settings.sets[2].ki = 4_194_305),
         with(|l| l.settings.sets[1].alpha = 0),
@@ -87,6 +96,52 @@ fn broken_state() -> Vec<Loop> {
     ]
 }
 
+/// Those that break a rule of request 7: "the window's temperatures lie in range, at most 128 are
+/// seen, unfilled places are zero".
+fn broken_window() -> Vec<Loop> {
+    vec![
+        with(|l| l.window[0] = 1_000_001),
+        with(|l| l.window[2] = -1_000_001),
+        with(|l| l.window[1] = i32::MIN),
+        with(|l| l.window[3] = 1),
+        with(|l| l.window[127] = -1),
+        with(|l| l.window[127] = 1_000_001),
+        with(|l| l.seen = 0),
+        with(|l| l.seen = 2),
+        with(|l| l.seen = 129),
+        with(|l| l.seen = 256),
+        with(|l| l.seen = usize::MAX),
+        with(|l| {
+            l.seen = 128;
+            l.window[127] = -1_000_001;
+        }),
+    ]
+}
+
+/// Records that keep the rules of request 7 at their very ends. "No state rule ties `seen` to primed".
+fn windows_at_the_ends() -> Vec<Loop> {
+    vec![
+        with(|l| l.settings.mean = 128),
+        with(|l| l.window[0] = 1_000_000),
+        with(|l| l.window[2] = -1_000_000),
+        with(|l| l.window[..3].fill(0)),
+        with(|l| l.seen = 4),
+        with(|l| l.seen = 128),
+        with(|l| {
+            l.seen = 128;
+            l.window = [-1_000_000; 128];
+        }),
+        with(|l| {
+            l.seen = 0;
+            l.window = [0; 128];
+        }),
+        with(|l| {
+            l.primed = false;
+            l.y = 0;
+        }),
+    ]
+}
+
 /// Records that are valid at the very end of a rule.
 fn at_the_ends() -> Vec<Loop> {
     vec![
@@ -123,7 +178,7 @@ fn at_the_ends() -> Vec<Loop> {
 
 #[test]
 fn each_rule_is_tested_and_nothing_more() {
-    for record in at_the_ends() {
+    for record in at_the_ends().into_iter().chain(windows_at_the_ends()) {
         assert_eq!(record.check(), Ok(()), "{record:?}");
     }
     for record in broken() {

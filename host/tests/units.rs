@@ -1,13 +1,13 @@
-//! 01, "Units": rounding, as request 3 has it, and the table of ranges, as request 5 has it.
+//! 01, "Units": rounding, as request 3 has it, and the table of ranges, as requests 5 and 7 have it.
 
 // What else the papers say of the settings text is the matter of other tests.
 #[allow(dead_code)]
 mod papers;
 
-use host::by_hand::nearest;
-use host::law::{round, Loop};
+use host::by_hand::{nearest, nearest_over};
+use host::law::{round, round_over, Loop};
 use host::rng::for_each_seed;
-use host::settings::{places, Settings, LINES, ROWS, SETS};
+use host::settings::{places, Settings, LINES, ROWS, SETS, WINDOW};
 use host::text::{SHORT_LINES, SHORT_SETS};
 
 /// "fine -32,768 now gives -1, and -32,767 gives 0"; 01's other numbers stand.
@@ -45,29 +45,54 @@ fn rounding_is_to_the_nearest_and_halves_go_away_from_zero_at_every_size() {
     assert!(halves > 1_000, "{halves} halves");
 }
 
-/// One row for each of 01's keys, and a place for each of the 86 lines.
+/// The mean is "rounded as in request 3", over any number of temperatures.
 #[test]
-fn the_table_has_the_rows_of_01_in_the_order_of_the_text() {
+fn rounding_over_any_number_is_to_the_nearest_and_halves_go_away_from_zero() {
+    let examples = [(961, 2, 481), (-961, 2, -481), (1_430, 3, 477), (-1_430, 3, -477)];
+    for (sum, number, rounded) in examples {
+        assert_eq!(round_over(sum, number), rounded, "{sum} over {number}");
+    }
+    let mut halves = 0;
+    for number in 1..=128 {
+        for sum in -400..=400 {
+            let r = round_over(sum, number);
+            assert_eq!(nearest_over(sum, number), r, "{sum} over {number}, by hand");
+            let twice_the_distance = 2 * (number * r - sum).abs();
+            assert!(twice_the_distance <= number, "{sum} over {number} gives {r}");
+            if twice_the_distance == number {
+                halves += 1;
+                assert!((number * r).abs() > sum.abs(), "{sum} over {number} gives {r}");
+            }
+        }
+    }
+    assert!(halves > 1_000, "{halves} halves");
+}
+
+/// One row for each of 01's keys and one for the mean, and a place for each of the 87 lines.
+#[test]
+fn the_table_has_the_rows_of_the_papers_in_the_order_of_the_text() {
     let letters = ROWS.map(|row| row.letters);
-    assert_eq!(letters.join(" "), "action lo hi out sp rate kp ki kd alpha kt");
+    assert_eq!(letters.join(" "), "action lo hi out sp rate mean kp ki kd alpha kt");
     let keys: Vec<String> = places().map(|place| place.key()).collect();
     assert_eq!(keys, papers::keys());
-    let spelled = "action lo hi out sp rate kp0 ki0 kd0 alpha0 kt0 kp1 ki1 kd1 alpha1 kt1 \
+    let spelled = "action lo hi out sp rate mean kp0 ki0 kd0 alpha0 kt0 kp1 ki1 kd1 alpha1 kt1 \
                    kp2 ki2 kd2 alpha2 kt2 kp3 ki3 kd3 alpha3 kt3 kp4 ki4 kd4 alpha4 kt4";
-    assert_eq!(keys[..31].join(" "), spelled);
-    assert_eq!(keys[56..61].join(" "), "kp10 ki10 kd10 alpha10 kt10");
-    assert_eq!(keys[81..].join(" "), "kp15 ki15 kd15 alpha15 kt15");
+    assert_eq!(keys[..32].join(" "), spelled);
+    assert_eq!(keys[57..62].join(" "), "kp10 ki10 kd10 alpha10 kt10");
+    assert_eq!(keys[82..].join(" "), "kp15 ki15 kd15 alpha15 kt15");
     for (place, key) in places().zip(&keys) {
         assert_eq!((place.row.least, place.row.most), papers::range(key), "{key}");
     }
 }
 
-/// "Raise four to sixteen, so code 9 starts at 16 and the text has 86 lines".
+/// "Raise four to sixteen, so code 9 starts at 16 and the text has 86 lines"; with that of the mean
+/// they are "one more". "a window of 128 places"
 #[test]
-fn the_counts_are_those_of_request_5() {
-    assert_eq!((SETS, LINES, places().count()), (16, 86, 86));
-    assert_eq!((SHORT_SETS, SHORT_LINES), (4, 26));
+fn the_counts_are_those_of_requests_5_and_7() {
+    assert_eq!((SETS, LINES, places().count()), (16, 87, 87));
+    assert_eq!((SHORT_SETS, SHORT_LINES), (4, 27));
     assert_eq!(Loop::SETS, 0..=15);
+    assert_eq!((WINDOW, Loop::blank().window.len()), (128, 128));
 }
 
 #[test]
@@ -83,13 +108,13 @@ fn the_bounds_of_the_state_rules_follow_from_the_ranges() {
 #[test]
 fn values_and_settings_are_two_views_of_the_same() {
     for_each_seed(200, |rng| {
-        let values = [0; 86].map(|_: i32| rng.bits() as i32);
+        let values = [0; 87].map(|_: i32| rng.bits() as i32);
         let settings = Settings::from_values(&values);
         assert_eq!(settings.values(), values);
-        assert_eq!((settings.lo, settings.rate), (values[1], values[5]));
-        assert_eq!((settings.sets[0].kp, settings.sets[3].kt), (values[6], values[25]));
-        assert_eq!((settings.sets[2].ki, settings.sets[1].alpha), (values[17], values[14]));
-        assert_eq!((settings.sets[4].kp, settings.sets[10].kd), (values[26], values[58]));
-        assert_eq!((settings.sets[15].kp, settings.sets[15].kt), (values[81], values[85]));
+        assert_eq!([settings.lo, settings.rate, settings.mean], [values[1], values[5], values[6]]);
+        assert_eq!((settings.sets[0].kp, settings.sets[3].kt), (values[7], values[26]));
+        assert_eq!((settings.sets[2].ki, settings.sets[1].alpha), (values[18], values[15]));
+        assert_eq!((settings.sets[4].kp, settings.sets[10].kd), (values[27], values[59]));
+        assert_eq!((settings.sets[15].kp, settings.sets[15].kt), (values[82], values[86]));
     });
 }

@@ -1,12 +1,13 @@
 //! What the papers say of the settings text, in their own numbers: 26 lines or 86, four sets or
-//! sixteen. The peer has no part in it but the text of settings C, which is 01's.
+//! sixteen, and with the line of the mean one more. The peer has no part in it but the text of
+//! settings C, which is 01's.
 
 use host::example::C;
 
-/// "action, lo, hi, out, sp, rate, then kp0 ki0 kd0 alpha0 kt0, then the same for" the sets 1 to
-/// 15: the 86 keys in their order.
+/// "action, lo, hi, out, sp, rate", mean, which "follows rate", "then kp0 ki0 kd0 alpha0 kt0, then
+/// the same for" the sets 1 to 15: the 87 keys in their order.
 pub fn keys() -> Vec<String> {
-    let once = ["action", "lo", "hi", "out", "sp", "rate"].map(String::from);
+    let once = ["action", "lo", "hi", "out", "sp", "rate", "mean"].map(String::from);
     let set = |k: usize| ["kp", "ki", "kd", "alpha", "kt"].map(|letters| format!("{letters}{k}"));
     once.into_iter().chain((0..16).flat_map(set)).collect()
 }
@@ -17,6 +18,7 @@ pub fn range(key: &str) -> (i32, i32) {
         "action" => (0, 1),
         "lo" | "hi" | "out" | "sp" => (-1_000_000, 1_000_000),
         "rate" => (1, 2_000_000),
+        "mean" => (1, 128),
         "kp" | "ki" | "kd" => (0, 4_194_304),
         "alpha" => (1, 65_536),
         "kt" => (0, 65_536),
@@ -24,15 +26,79 @@ pub fn range(key: &str) -> (i32, i32) {
     }
 }
 
-/// Settings C in 86 lines: those of 01, and then the lines of set 0 for each of the sets 4 to 15.
-pub fn full_c() -> String {
-    let set = |k| format!("kp{k}=65536\nki{k}=16384\nkd{k}=0\nalpha{k}=65536\nkt{k}=0\n");
-    C.to_string() + &(4..16).map(set).collect::<String>()
+/// Means over one temperature, over few, over one less than the window holds, and over all.
+pub const MEANS: [i32; 5] = [1, 2, 7, 127, 128];
+
+/// A form of the settings text: "a text that ends after 26 lines" or after 86, and "with the line" of
+/// the mean each "one more".
+#[derive(Debug, Clone, Copy, PartialEq, Eq)]
+pub struct Form {
+    /// Whether the line of the mean is in it.
+    pub mean: bool,
+    /// How many lines it has.
+    pub lines: usize,
+    /// How many bytes it has at most.
+    pub bytes: usize,
 }
 
-/// Settings C in both forms, with the number of lines of each.
-pub fn both_forms() -> [(usize, String); 2] {
-    [(26, C.to_string()), (86, full_c())]
+const fn form(mean: bool, lines: usize, bytes: usize) -> Form {
+    Form { mean, lines, bytes }
+}
+
+/// Those that end after set 3; of each the next one in [`FULL`] has every set.
+pub const SHORT: [Form; 2] = [form(false, 26, 306), form(true, 27, 315)];
+
+/// Those that end after set 15. "same bytes are claimed only for texts that have every line": the
+/// last.
+pub const FULL: [Form; 2] = [form(false, 86, 1_044), form(true, 87, 1_053)];
+
+/// All four.
+pub const FORMS: [Form; 4] = [SHORT[0], SHORT[1], FULL[0], FULL[1]];
+
+impl Form {
+    /// A text of every line in this form.
+    pub fn of(self, every_line: &str) -> String {
+        let stays = |line: &&str| self.mean || !line.starts_with("mean");
+        every_line.split_inclusive('\n').filter(stays).take(self.lines).collect()
+    }
+
+    /// Settings C in this form.
+    pub fn c(self) -> String {
+        self.of(&full_c())
+    }
+
+    /// The keys of its lines, in their order.
+    pub fn keys(self) -> Vec<String> {
+        let stays = |key: &String| self.mean || key != "mean";
+        keys().into_iter().filter(stays).take(self.lines).collect()
+    }
+
+    /// The number that a line of 01 or of request 5 has here: "with the line" of the mean those
+    /// after rate are "one more".
+    pub fn line(self, without_the_mean: usize) -> usize {
+        without_the_mean + usize::from(self.mean && without_the_mean > 6)
+    }
+}
+
+/// Settings C with this line of the mean, in 27 lines.
+pub fn short_c(mean: &str) -> String {
+    C.replace("rate=50\n", &format!("rate=50\n{mean}\n"))
+}
+
+/// Settings C in 87 lines: those of 01, which are "read as mean 1", and then the lines of set 0 for
+/// each of the sets 4 to 15.
+pub fn full_c() -> String {
+    let set = |k| format!("kp{k}=65536\nki{k}=16384\nkd{k}=0\nalpha{k}=65536\nkt{k}=0\n");
+    short_c("mean=1") + &(4..16).map(set).collect::<String>()
+}
+
+/// What is written of settings C, which is the same with each of its four texts.
+pub fn with_c(run: impl Fn(&[u8]) -> String) -> String {
+    let written = run(C.as_bytes());
+    for form in FORMS {
+        assert_eq!(run(form.c().as_bytes()), written, "{form:?}");
+    }
+    written
 }
 
 /// The first lines of a text, each with its line feed.
@@ -50,8 +116,8 @@ pub fn with_line(text: &str, number: usize, line: &[u8]) -> Vec<u8> {
 /// A text at an edge of a form, with the code and the line that the papers answer.
 pub type Edge = (String, i32, usize);
 
-/// What follows the 26 lines of C, where it is not nothing and not line 27.
-const NO_LINE_27: [&str; 23] = [
+/// What follows set 3, where it is not nothing and not the first line of set 4.
+const NO_SET_4: [&str; 24] = [
     "x",
     "\n",
     " ",
@@ -75,66 +141,226 @@ const NO_LINE_27: [&str; 23] = [
     "kp40=0\n",
     "kpa=0\n",
     "action=0\n",
+    "mean=1\n",
 ];
 
-/// "Any byte after line 26 is tested as line 27 is, 14 before 15, and on to line 86".
-pub fn edges_after_line_26() -> Vec<Edge> {
-    let no_line = NO_LINE_27.iter().map(|after| (format!("{C}{after}"), 14, 27));
+/// "Any byte after line 26 is tested as line 27 is, 14 before 15, and on to line 86"; "with the line
+/// request 5's 26 and 27 are one more".
+pub fn edges_after_set_3() -> Vec<Edge> {
+    SHORT.into_iter().zip(FULL).flat_map(|(short, full)| after_set_3(short, full)).collect()
+}
+
+fn after_set_3(short: Form, full: Form) -> Vec<Edge> {
+    let (c, last) = (short.c(), short.lines);
+    let no_line = NO_SET_4.iter().map(|after| (format!("{c}{after}"), 14, last + 1));
     let mut edges: Vec<Edge> = no_line.collect();
-    edges.push((C.to_string(), 0, 0));
-    edges.push((format!("{C}{C}"), 14, 27));
-    edges.push((C.trim_end().to_string(), 14, 26));
+    edges.push((c.clone(), 0, 0));
+    edges.push((format!("{c}{c}"), 14, last + 1));
+    edges.push((c.trim_end().to_string(), 14, last));
     for value in ["4194305", "-1", "9999999", "-9999999"] {
-        edges.push((format!("{C}kp4={value}\n"), 15, 27));
-        edges.push((format!("{C}kp4={value}"), 14, 27));
-        edges.push((format!("{C}kp4={value}\nx"), 15, 27));
+        edges.push((format!("{c}kp4={value}\n"), 15, last + 1));
+        edges.push((format!("{c}kp4={value}"), 14, last + 1));
+        edges.push((format!("{c}kp4={value}\nx"), 15, last + 1));
     }
     for value in ["0", "65536", "4194304"] {
-        edges.push((format!("{C}kp4={value}\n"), 14, 28));
-        edges.push((format!("{C}kp4={value}\nki4=4194305\n"), 15, 28));
+        edges.push((format!("{c}kp4={value}\n"), 14, last + 2));
+        edges.push((format!("{c}kp4={value}\nki4=4194305\n"), 15, last + 2));
     }
-    for count in 27..86 {
-        edges.push((first_lines(&full_c(), count), 14, count + 1));
-        edges.push((first_lines(&full_c(), count) + "x", 14, count + 1));
+    for count in last + 1..full.lines {
+        edges.push((first_lines(&full.c(), count), 14, count + 1));
+        edges.push((first_lines(&full.c(), count) + "x", 14, count + 1));
     }
     edges
 }
 
 /// "17 comes only after the last line", and the limits only after that.
 pub fn edges_of_the_end() -> Vec<Edge> {
-    let full = full_c();
-    let mut edges = vec![(full.clone(), 0, 0), (full.trim_end().to_string(), 14, 86)];
-    for after in ["\n", "x", " ", "\0", "kt15=0\n", "kp16=0\n", "kp16=4194305\n", C, &full] {
-        edges.push((format!("{full}{after}"), 17, 0));
+    SHORT.into_iter().zip(FULL).flat_map(|(short, full)| at_the_end(short, full)).collect()
+}
+
+fn at_the_end(short: Form, full: Form) -> Vec<Edge> {
+    let c = full.c();
+    let mut edges = vec![(c.clone(), 0, 0), (c.trim_end().to_string(), 14, full.lines)];
+    for after in ["\n", "x", " ", "\0", "kt15=0\n", "kp16=0\n", "kp16=4194305\n", C, &c] {
+        edges.push((format!("{c}{after}"), 17, 0));
     }
-    let [short, long] = [C, &full].map(|text| text.replace("hi=1000\n", "hi=0\n"));
+    let next = short.lines + 1;
+    let [short, long] = [short.c(), c].map(|text| text.replace("hi=1000\n", "hi=0\n"));
     for after in ["x", "\n", " ", "\0"] {
-        edges.push((format!("{short}{after}"), 14, 27));
+        edges.push((format!("{short}{after}"), 14, next));
         edges.push((format!("{long}{after}"), 17, 0));
     }
-    edges.push((format!("{short}kp4=4194305\n"), 15, 27));
+    edges.push((format!("{short}kp4=4194305\n"), 15, next));
     edges.push((short, 16, 0));
     edges.push((long, 16, 0));
     edges
 }
 
 /// Keys that are not those of their line, though like them: the number of a set has no leading
-/// zero, and two digits are one number.
+/// zero, and two digits are one number. The lines are those of 86.
+const KEYS_ALIKE: [(usize, &[&str]); 6] = [
+    (7, &["kp", "kp00", "kp-0", "kp 0", "kpa", "kp1", "kp10", "k0", "p0", "KP0"]),
+    (12, &["kp01", "kp10", "kp11", "kp1 ", "kp", "kp0", "kpl"]),
+    (27, &["kp04", "kp40", "kp14", "kp", "kp3", "kp5", "ki4"]),
+    (57, &["kp1 0", "kp010", "kp1", "kp0", "kp100", "kp01", "kp9", "kp11", "kpa", "kp", "kp:"]),
+    (65, &["alpha1", "alpha 11", "alpha011", "alpha111", "alphb", "alphaB", "alph11", "kt11"]),
+    (86, &["kt1", "kt5", "kt15 ", "kt015", "kt51", "kt14", "kt16", "ktf", "kt1 5"]),
+];
+
+/// Each of them with and without the line of the mean.
 pub fn edges_of_the_keys() -> Vec<Edge> {
-    let cases: [(usize, &[&str]); 6] = [
-        (7, &["kp", "kp00", "kp-0", "kp 0", "kpa", "kp1", "kp10", "k0", "p0", "KP0"]),
-        (12, &["kp01", "kp10", "kp11", "kp1 ", "kp", "kp0", "kpl"]),
-        (27, &["kp04", "kp40", "kp14", "kp", "kp3", "kp5", "ki4"]),
-        (57, &["kp1 0", "kp010", "kp1", "kp0", "kp100", "kp01", "kp9", "kp11", "kpa", "kp", "kp:"]),
-        (65, &["alpha1", "alpha 11", "alpha011", "alpha111", "alphb", "alphaB", "alph11", "kt11"]),
-        (86, &["kt1", "kt5", "kt15 ", "kt015", "kt51", "kt14", "kt16", "ktf", "kt1 5"]),
-    ];
-    let with = |number, key: &str| with_line(&full_c(), number, format!("{key}=1").as_bytes());
-    let edge = |number, key| (String::from_utf8(with(number, key)).expect("text"), 14, number);
-    cases.iter().flat_map(|&(number, keys)| keys.iter().map(move |key| edge(number, key))).collect()
+    let alike = |form: Form, line: usize, key| {
+        with_text(&form.c(), form.line(line), &format!("{key}=1"), 14)
+    };
+    let mut edges = vec![];
+    for (form, (line, keys)) in FULL.into_iter().flat_map(|form| KEYS_ALIKE.map(|at| (form, at))) {
+        edges.extend(keys.iter().map(|key| alike(form, line, key)));
+    }
+    edges
 }
 
-/// The longest text that is accepted, of 86 lines; its first 26 are the longest of those.
+/// A text with one line in place of its own, which is refused there.
+fn with_text(text: &str, number: usize, line: &str, code: i32) -> Edge {
+    let text = String::from_utf8(with_line(text, number, line.as_bytes())).expect("text");
+    (text, code, number)
+}
+
+/// What line 7 may not be: neither a line of the mean, nor one that begins with kp0.
+const NO_MEAN: [&str; 24] = [
+    "",
+    "mean",
+    "mean=",
+    "mean=-",
+    "mean=-0",
+    "mean=00",
+    "mean=01",
+    "mean=+1",
+    "mean= 1",
+    "mean=1 ",
+    "mean =1",
+    " mean=1",
+    "mean=1\r",
+    "mean=00000001",
+    "mean=12800000",
+    "Mean=1",
+    "means=1",
+    "mea=1",
+    "mean1=1",
+    "mean0=1",
+    "jump=1",
+    "rate=1",
+    "kp1=1",
+    "ki0=1",
+];
+
+/// The mean at another line than after rate, and what stands there instead: the lines of settings C
+/// that are replaced, by what, and the first line of wrong form.
+const OUT_OF_PLACE: [(&str, &str, usize); 9] = [
+    ("mean=1\n", "mean=1\nmean=1\n", 8),
+    ("mean=1\n", "mean=1\nmean=129\n", 8),
+    ("mean=1\n", "mean=1\njump=1\n", 8),
+    ("mean=1\n", "jump=1\nmean=1\n", 7),
+    ("mean=1\nkp0=65536\n", "kp0=65536\nmean=1\n", 8),
+    ("mean=1\nkp0=65536\n", "mean=1\n", 8),
+    ("mean=1\nkp0=65536\n", "", 7),
+    ("rate=50\nmean=1\n", "mean=1\nrate=50\n", 6),
+    ("rate=50\n", "", 6),
+];
+
+/// "One settings line, mean, follows rate; a text whose line after rate begins with kp0 is read as
+/// mean 1".
+pub fn edges_of_the_mean() -> Vec<Edge> {
+    [SHORT[1], FULL[1]].into_iter().flat_map(of_the_mean).collect()
+}
+
+fn of_the_mean(form: Form) -> Vec<Edge> {
+    let c = form.c();
+    let mut edges: Vec<Edge> = NO_MEAN.iter().map(|line| with_text(&c, 7, line, 14)).collect();
+    for value in ["0", "129", "-1", "-128", "256", "9999999", "-9999999"] {
+        edges.push(with_text(&c, 7, &format!("mean={value}"), 15));
+        edges.push(with_text(&c, 7, &format!("mean={value}\nmean=1"), 15));
+    }
+    edges.extend(OUT_OF_PLACE.map(|(lines, other, line)| (c.replace(lines, other), 14, line)));
+    // What begins with kp0 is tested as its line is, here the seventh.
+    for (line, code) in [("kp0", 14), ("kp0=", 14), ("kp0=-1", 15), ("kp0=4194305", 15)] {
+        edges.push(with_text(&c.replace("mean=1\n", ""), 7, line, code));
+    }
+    let front = first_lines(&c, 6);
+    for stop in ["", "m", "mean", "mean=", "mean=1", "k", "kp", "kp0", "kp0=65536", "kp0=4194305"] {
+        edges.push((format!("{front}{stop}"), 14, 7));
+    }
+    for seventh in ["mean=1\n", "mean=128\n", "kp0=65536\n"] {
+        edges.push((format!("{front}{seventh}"), 14, 8));
+    }
+    edges
+}
+
+/// Samples for settings C with a mean in its place or with other lines, and what `oven` writes.
+pub type MeanExample = (String, &'static [u8], String);
+
+/// "C with mean=2, automatic, 480, 480, 470: 100, 105, 116", and of every other mean. In the third
+/// sample
+///
+/// | mean | the law reads | e | P + I + g | u |
+/// |---|---|---|---|---|
+/// | 1 | 470 | 30 | 30 + 85 + 7.5 | 123 |
+/// | 2 | 950 / 2 = 475 | 25 | 25 + 85 + 6.25 | 116 |
+/// | 3 and more | 1,430 / 3, nearest to 477 | 23 | 23 + 85 + 5.75 | 114 |
+///
+/// "480, 481 gives 481", so that e = 19 and P + I + g = 19 + 80 + 4.75; "-480, -481 gives -481", so
+/// that with sp = -500 e = -19 and P + I + g = -19 + 120 - 4.75. "code 4 tests the raw one": before it
+/// e = 500 twice, and P + I + g = 500 - 400 + 125.
+pub fn mean_examples() -> Vec<MeanExample> {
+    let of_each = |mean| {
+        let third = match mean {
+            1 => 123,
+            2 => 116,
+            _ => 114,
+        };
+        let samples: &[u8] = b"480\n480\n470\n";
+        (short_c(&format!("mean={mean}")), samples, format!("100\n105\n{third}\n"))
+    };
+    let mut examples: Vec<MeanExample> = (1..=128).map(of_each).collect();
+    let two = short_c("mean=2");
+    let below = two.replace("sp=500\n", "sp=-500\n");
+    let bad = "100\n225\nrefused 4 3\n";
+    examples.push((two, b"480\n481\n", "100\n104\n".to_string()));
+    examples.push((below, b"-480\n-481\n", "100\n96\n".to_string()));
+    examples.push((short_c("mean=128"), b"0\n0\n1000001\n", bad.to_string()));
+    examples
+}
+
+/// What `journal` writes for settings C with mean=2: a repeat, a refused sample and other commands do
+/// not enter the window, a manual sample does. The samples 470 are read as 475, and so is the last
+/// 480: e = 25 each time.
+pub const JOURNAL_WITH_MEAN_2: &str = "\
+number=1 command=sample value=480 second=0 code=0 output=100 last=1
+number=2 command=automatic value=0 second=0 code=0 output=100 last=2
+number=3 command=sample value=480 second=0 code=0 output=100 last=3
+number=4 command=sample value=480 second=0 code=0 output=105 last=4
+number=4 command=sample value=480 second=0 code=0 output=105 last=4
+number=5 command=sample value=1000001 second=0 code=4 output=105 last=4
+number=6 command=sample value=400 second=0 code=3 output=105 last=4
+number=3 command=sample value=400 second=0 code=1 output=105 last=4
+number=4 command=sample value=400 second=0 code=2 output=105 last=4
+number=5 command=target value=500 second=50 code=0 output=105 last=5
+number=6 command=sample value=470 second=0 code=0 output=116 last=6
+number=6 command=sample value=475 second=0 code=2 output=116 last=6
+number=6 command=sample value=470 second=0 code=0 output=116 last=6
+number=7 command=hold value=0 second=0 code=0 output=116 last=7
+number=8 command=sample value=480 second=0 code=0 output=116 last=8
+number=9 command=automatic value=0 second=0 code=0 output=116 last=9
+number=10 command=sample value=470 second=0 code=0 output=116 last=10
+number=11 command=sample value=480 second=0 code=0 output=122 last=11
+";
+
+/// The deliveries of that journal.
+pub fn delivered_with_mean_2() -> Vec<u8> {
+    let delivery = |line: &str| line.split(" code=").next().map(|line| format!("{line}\n"));
+    JOURNAL_WITH_MEAN_2.lines().filter_map(delivery).collect::<String>().into_bytes()
+}
+
+/// The longest text that is accepted, of every line; in each form it is the longest of that.
 pub fn longest_text() -> String {
     let value = |key: &str| match key {
         "lo" | "out" | "sp" => -1_000_000,
@@ -144,15 +370,16 @@ pub fn longest_text() -> String {
     keys().iter().map(|key| format!("{key}={}\n", value(key))).collect()
 }
 
-/// "1,044 bytes bounds accepted texts (1,045 pass every line and are 16)"; the short form's 306 and
-/// 307 are so, too. What follows is answered alike, however much it is.
+/// "1,044 bytes bounds accepted texts (1,045 pass every line and are 16)"; so do 306, 315 and 1,053.
+/// What follows is answered alike, however much it is.
 pub fn edges_of_the_length() -> Vec<Edge> {
-    let full = longest_text();
-    let short = first_lines(&full, 26);
+    let short = SHORT.map(|form| (form, 14, form.lines + 1));
+    let full = FULL.map(|form| (form, 17, 0));
     let mut edges = vec![];
-    for (text, code, line) in [(short, 14, 27), (full, 17, 0)] {
+    for (form, code, line) in short.into_iter().chain(full) {
+        let text = form.of(&longest_text());
         let too_long = text.replace("hi=-999999\n", "hi=-1000000\n");
-        for count in [1, 2, 3, 22, 23, 24, 25, 738, 739, 740, 5_000, 70_000] {
+        for count in [1, 2, 3, 13, 14, 15, 16, 22, 23, 24, 25, 738, 739, 740, 5_000, 70_000] {
             for after in ["1", "\n"].map(|byte| byte.repeat(count)) {
                 edges.push((format!("{text}{after}"), code, line));
                 edges.push((format!("{too_long}{after}"), code, line));
@@ -165,8 +392,8 @@ pub fn edges_of_the_length() -> Vec<Edge> {
 
 /// All of these. What is accepted of them says settings C.
 pub fn edges() -> Vec<Edge> {
-    let in_lines = [edges_after_line_26(), edges_of_the_end(), edges_of_the_keys()].concat();
-    [in_lines, edges_of_the_length()].concat()
+    let in_lines = [edges_after_set_3(), edges_of_the_keys(), edges_of_the_mean()].concat();
+    [in_lines, edges_of_the_end(), edges_of_the_length()].concat()
 }
 
 /// The same texts with what a program writes of each, where it writes `taken` of those accepted.
