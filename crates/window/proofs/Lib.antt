@@ -3,4 +3,5 @@ pub mod Sums
 pub mod Bad
 pub mod Rules
 pub mod Taken
+pub mod Runs
 pub mod Good

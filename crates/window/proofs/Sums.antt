@@ -3,6 +3,7 @@ use Prim.Native.Nat.{ℕ, zero, suc, _<_, _≤_}
 use mathlib.Core.Path.{_≡_, refl, sym, ap, subst, _∙_}
 use mathlib.Core.List.{List, [], _∷_}
 use native.Mathlib.Omega.{arith}
+use lib.Dec.{lit<}
 use lib.IntN.{ℤ, pos, negsuc, negℤ, _+ℤ_, _*ℤ_, +ℤ-assoc}
 use lib.ListN.{length, getD, take}
 use lib.Seq.{take-length}
@@ -94,6 +95,12 @@ bits-between (negsuc n) f = let h = f .sfits in record { low = omega (arith, zs)
 pub between-bits : (z : ℤ) → Between (negsuc 2147483647) (pos 2147483647) z → SFits w32 z
 between-bits (pos n) b = let h = b .high in record { sfits = omega (arith, zs) }
 between-bits (negsuc n) b = let h = b .low in record { sfits = omega (arith, zs) }
+
+pub bits-take : (n : ℕ) (xs : List ℤ) → Bits xs → Bits (take n xs)
+bits-take zero xs e i = record { sfits = lit< tt }
+bits-take (suc n) [] e i = e i
+bits-take (suc n) (x ∷ xs) e zero = e 0
+bits-take (suc n) (x ∷ xs) e (suc i) = bits-take n xs (λ j. e (suc j)) i
 
 -- the sum of numbers of 32 bits, so many as the window has places
 pub mean-ok : (n : ℕ) (xs : List ℤ) → n ≤ window → Bits xs → MeanOk (sumOf (take n xs)) n

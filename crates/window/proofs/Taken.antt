@@ -20,6 +20,7 @@ use Rattle.window.specs.Window.{taken, latest, sumOf, meanOf, meanAt}
 use Rattle.window.specs.Means.{firstBad, afterAll, meansOf, frontFilled, meansInto, pastOf}
 use Rattle.window.specs.declared.means.Summed.{Summed}
 use Rattle.window.specs.Bounds.{Bits, summedOf}
+use Rattle.window.specs.Running.{onto, countedOn, meansAt}
 use Rattle.window.proofs.Sums.{sum-next}
 
 -- ---- the last of those seen
@@ -50,12 +51,6 @@ module _ (m : ℕ) (w : Window) (all : List ℤ) (newest : take window all ≡ w
       ap meanOf latest-is ∙ ap (nearest (sumOf (take (counted m w) all))) n
 
 -- ---- the mean after each
-
--- over the last n of all temperatures, and after each sample over one more, up to most
-abbrev pub meansAt : ℕ → ℕ → List ℤ → List ℤ → List ℤ
-meansAt most n all [] = []
-meansAt most n all (x ∷ xs) =
-    nearest (sumOf (take (min most (n + 1)) (x ∷ all))) (min most (n + 1)) ∷ meansAt most (min most (n + 1)) (x ∷ all) xs
 
 newest-taken : (w : Window) (pv : ℤ) (all : List ℤ) → take window all ≡ w .places → take window (pv ∷ all) ≡ taken w pv .places
 unfolding taken
@@ -164,6 +159,11 @@ module _ (n most i : ℕ) (sum : ℤ) (old s : List ℤ) (e : sum ≡ sumOf (tak
 pub sets-front : (out vs : List ℤ) → length vs ≤ length out → sets out 0 vs ≡ frontFilled vs out
 sets-front out vs h = sets-eq vs out 0 (rw zero-add h) ∙ rw zero-add
 
+pub means-length : (m : ℕ) (w : Window) (s : List ℤ) → length (meansOf m w s) ≡ length s
+unfolding each
+means-length m w [] = refl
+means-length m w (x ∷ s) = ap suc (means-length m (taken w x) s)
+
 -- its front, filled once, and filled again
 pub front-take : (vs out : List ℤ) → take (length vs) (frontFilled vs out) ≡ vs
 front-take vs out = take-at vs (drop (length vs) out) (length vs) refl
@@ -186,10 +186,9 @@ pub means-long : (most n : ℕ) (all s : List ℤ) → length (meansAt most n al
 means-long most n all [] = refl
 means-long most n all (x ∷ s) = ap suc (means-long most (min most (n + 1)) (x ∷ all) s)
 
--- and none more
-pub means-end : (most n i : ℕ) (all s out out₀ vs : List ℤ) → i ≡ length s → length vs ≤ length out₀ →
-    sets out i (meansAt most n all (drop i s)) ≡ sets out₀ 0 vs → out ≡ frontFilled vs out₀
-means-end most n i all s out out₀ vs e h q = (rw (e, drop-length s) at q) ∙ sets-front out₀ vs h
+-- and one counted more
+pub counted-turn : (most n i : ℕ) (s : List ℤ) → i < length s → countedOn most (min most (n + 1)) (drop (i + 1) s) ≡ countedOn most n (drop i s)
+counted-turn most n i s more = rw (add-one i, drop-cons s i (pos 0) more)
 
 -- what becomes of the list
 module _ (m : ℕ) (w : Window) (s out : List ℤ) where

@@ -1,3 +1,4 @@
 pub mod Window
 pub mod Means
 pub mod Bounds
+pub mod Running

@@ -11,7 +11,7 @@ use borrow.Rule.Slice.PartMut.{postOf, putMid, post-is}
 use Rattle.whole.proofs.Lists.{next, part-left}
 
 -- one part after the other
-pub sets-append : (l : List ℕ) (i : ℕ) (a b : List ℕ) → sets l i (a ++ b) ≡ sets (sets l i a) (i + length a) b
+pub sets-append : {A : Type 0} (l : List A) (i : ℕ) (a b : List A) → sets l i (a ++ b) ≡ sets (sets l i a) (i + length a) b
 sets-append l i [] b = simp add-zero
 sets-append l i (x ∷ a) b = sets-append (set l i x) (suc i) a b ∙ simp (add-suc, suc-add)
 

@@ -1,184 +1,181 @@
--- The loop's invariant: what is left to do, done from here, gives what all of it gives from the start.
-use Prim.Native.Nat.{ℕ, _+_, _-_, _≤_, min}
+use Prim.Native.Nat.{ℕ, _≤_}
 use mathlib.Core.Path.{_≡_, refl, sym, ap, ap₂, _∙_}
-use mathlib.Core.List.{List}
-use native.Mathlib.Numerals.{add-one}
-use native.Mathlib.Nat.{zero-add}
+use mathlib.Core.List.{List, []}
 use native.Mathlib.Omega.{arith}
 use borrow.Author.Needs.{needs}
 use denote.Ref.{now}
+use lib.Dec.{lit<}
 use lib.IntN.{ℤ}
-use lib.ListN.{length, drop, take, set, length-set}
-use lib.Seq.{sets, take-all, drop-cons, drop-length}
-use mir.Syntax.{w32, w64}
+use lib.ListN.{length, take, drop}
+use lib.Seq.{sets, take-all, length-take-le, length-sets}
+use mir.Syntax.{w64}
 use mir.Val.{toZ, ofZ}
-use mir.Facts.{toZ-ofZ}
 use Rattle.whole.specs.Numbers.{Within}
-use Rattle.whole.proofs.Num.{nums, gives}
+use Rattle.whole.proofs.Num.{num-in, num-back, gives}
 use Rattle.settings.specs.Table.{window}
-use Rattle.whole.specs.Rounding.{nearest}
+use Rattle.window.specs.declared.Window.{Window}
 use Rattle.window.specs.declared.means.Summed.{Summed}
 use Rattle.window.specs.Window.{sumOf}
-use Rattle.window.specs.Means.{firstBad, pastOf, meansOf, frontFilled}
-use Rattle.window.specs.Bounds.{sumMost, summedOf, MeanOk}
+use Rattle.window.specs.Means.{meansOf, frontFilled, pastOf}
+use Rattle.window.specs.Bounds.{Bits, sumMost}
+use Rattle.window.specs.Running.{meansAt}
 use Rattle.window.proofs.Fit.{window-fit}
-use Rattle.window.proofs.Sums.{mean-ok, sum-within}
+use Rattle.window.proofs.Sums.{bits-take, mean-ok, sum-within}
 use Rattle.window.proofs.Bad.{good-bits}
-use Rattle.window.proofs.Taken.{meansAt, means-at, means-long, means-turn, means-end, past-bits}
+use Rattle.window.proofs.Taken.{means-at, means-length, sets-front, past-bits}
+use Rattle.window.proofs.Runs.{means-one, first-sum, both-parts}
 use Rattle.window.proofs.Window.put_means.Statement.{statement}
 use Rattle.window.proofs.Window.put_means.Tie as tie
 
-abbrev Inv-loop : tie.InvT-loop
-Inv-loop m samples out₀ places most n s₀ i₀ out s i =
-    (i ≤ length samples)
-    × (length out ≡ length out₀)
-    × (s .n ≤ most)
-    × (s ≡ summedOf (s .n) (pastOf places samples i))
-    × (sets out i (meansAt most (s .n) (pastOf places samples i) (drop i samples)) ≡ sets out₀ 0 (meansAt most n places samples))
+-- ---- what a call is given
 
-abbrev μ-loop : tie.MeasureT-loop
-μ-loop m samples out₀ places most n s₀ i₀ out s i = length samples - i
+module _ (s : tie.Start) where
+  abbrev w : Window
+  w = s .args .self
 
-lesser-requires : tie.Need-lesser-requires Inv-loop μ-loop
+  abbrev pvs : List ℤ
+  pvs = now (s .args .samples)
+
+  abbrev out : List ℤ
+  out = now (s .args .out)
+
+  places-bits : Bits (w .places)
+  places-bits = window-fit w (s .good .0) .bits
+
+  samples-bits : Bits pvs
+  samples-bits = good-bits pvs (s .pre .0)
+
+-- ---- how many are counted, and at most
+
+module _ (t : tie.After-counted) where
+  abbrev start : tie.Start
+  start = t .before .before .before .before
+
+  abbrev most : ℕ
+  most = t .before .lesser .result
+
+  abbrev n : ℕ
+  n = t .counted .result
+
+  few : (n ≤ most) × (most ≤ window)
+  few = (omega (arith, t .counted .ensures, t .before .lesser .ensures), omega (arith, t .before .lesser .ensures))
+
+  means-are : (out : List ℤ) → sets out 0 (meansAt most n (w start .places) (pvs start)) ≡ sets out 0 (meansOf (start .args .m) (w start) (pvs start))
+  means-are out =
+      let f = window-fit (w start) (start .good .0) .places in
+      ap (sets out 0)
+      (ap₂ (λ (p q : ℕ). meansAt p q (w start .places) (pvs start)) (t .before .lesser .ensures) (t .counted .ensures)
+      ∙ sym (means-at (start .args .m) (w start) (w start .places) (pvs start) (take-all window (w start .places) (omega (arith, f))) (omega (arith, f))))
+
+  -- the means put from the first place on are the list's front
+  front : sets (out start) 0 (meansAt most n (w start .places) (pvs start)) ≡ frontFilled (meansOf (start .args .m) (w start) (pvs start)) (out start)
+  front =
+      means-are (out start)
+      ∙ sets-front (out start) (meansOf (start .args .m) (w start) (pvs start)) (omega (arith, means-length (start .args .m) (w start) (pvs start), start .pre .1))
+
+put-samples-requires : tie.Need-put-samples-requires
+put-samples-requires c κs = search needs
+
+same-length : tie.Need-same-length
+same-length c = search needs
+
+returns : tie.Need-returns
+returns c =
+    let s = c .before .before .before .before in
+    let e = c .before .before .before .if1 .taken in
+    c .before .put-samples .ensures
+    ∙ sets-front (out s) (pvs s) (s .pre .1)
+    ∙ ap (λ (xs : List ℤ). frontFilled xs (out s)) (sym (ap (λ (m : ℕ). meansOf m (w s) (pvs s)) e ∙ means-one (w s) (pvs s)))
+
+lesser-requires : tie.Need-lesser-requires
 lesser-requires c κs = search needs
 
-counted-requires : tie.Need-counted-requires Inv-loop μ-loop
+counted-requires : tie.Need-counted-requires
 counted-requires c κs = search needs
 
-sum-of-requires : tie.Need-sum-of-requires Inv-loop μ-loop
-sum-of-requires c κs =
-    let s = c .before .before .before .before in
-    (omega (arith, c .before .counted .ensures), window-fit (s .args .self) (s .good .0) .bits)
+put-first-requires : tie.Need-put-first-requires
+put-first-requires c κs =
+    let t = c .before .before .before in
+    let s = start t in
+    (few t .0, few t .1, c .before .before .if2 .taken, s .pre .1, places-bits s, samples-bits s)
 
-loop-holds : tie.Need-loop-holds Inv-loop μ-loop
-unfolding pastOf
-loop-holds c =
-    let s = c .before .before .before .before .before in
-    let n = c .before .before .counted in
-    let k : MeanOk (c .sum-of .result) (n .result) = rw (c .sum-of .ensures) (mean-ok (n .result) (s .args .self .places) (omega (arith, n .ensures)) (window-fit (s .args .self) (s .good .0) .bits)) in
-    let w = sum-within k in
-    let e : toZ w64 (ofZ w64 (c .sum-of .result)) ≡ c .sum-of .result = gives (search nums depth 12) tt refl in (
-      omega arith,
-      refl,
-      omega (arith, n .ensures, c .before .before .before .lesser .ensures),
-      ap (λ (z : ℤ). record { n = n .result; sum = z }) (e ∙ c .sum-of .ensures),
-      refl,
-    )
+same-length-2 : tie.Need-same-length-2
+same-length-2 c = search needs
 
-next-requires : tie.Need-next-requires Inv-loop μ-loop
-next-requires c κs =
-    let l = c .before .before .loop in
-    let s = c .before .before .before .before .before .before .before .before in
-    let m = c .before .before .before .before .before .before .lesser .ensures in (
-      l .inv .2,
-      omega (arith, m),
-      c .before .loop-test .taken,
-      window-fit (s .args .self) (s .good .0) .bits,
-      good-bits (now (s .args .samples)) (s .pre .0),
-      l .inv .3,
-    )
+returns-2 : tie.Need-returns-2
+returns-2 c = let t = c .before .before .before .before .before in c .before .put-first .ensures .1 ∙ front t
 
--- how many are counted then, and their sum
-abbrev then : tie.After-next Inv-loop μ-loop → ℕ
-then c = min (c .before .before .before .before .before .before .before .lesser .result) (c .before .before .before .loop .s .n + 1)
+slice-aggregate-put-first : tie.Need-slice-aggregate-put-first
+slice-aggregate-put-first c =
+    let t = c .before .before .before in
+    sym (length-take-le (most t) (pvs (start t)) (omega (arith, c .before .before .if2 .left)))
 
-next-is : (c : tie.After-next Inv-loop μ-loop) →
-    let a = c .before .before .before .before .before .before .before .before .before .args in
-    c .next .result ≡ summedOf (then c) (pastOf (a .self .places) (now (a .samples)) (c .before .before .before .loop .i + 1))
-next-is c = c .next .ensures
+put-first-requires-2 : tie.Need-put-first-requires-2
+put-first-requires-2 c κs =
+    let t = c .before .before .before .before in
+    let s = start t in
+    let k = length-take-le (most t) (pvs s) (omega (arith, c .before .before .before .if2 .left)) in
+    (few t .0, few t .1, omega (arith, k), omega (arith, k, s .pre .1, c .before .before .before .if2 .left), places-bits s, bits-take (most t) (pvs s) (samples-bits s))
 
-summed-ok : (c : tie.After-next Inv-loop μ-loop) → MeanOk (c .next .result .sum) (c .next .result .n)
-summed-ok c =
-    let s = c .before .before .before .before .before .before .before .before .before in
-    let m = c .before .before .before .before .before .before .before .lesser .ensures in
-    let b = past-bits (s .args .self .places) (now (s .args .samples)) (c .before .before .before .loop .i + 1) (window-fit (s .args .self) (s .good .0) .bits) (good-bits (now (s .args .samples)) (s .pre .0)) in
-    rw (next-is c) (mean-ok (then c) _ (omega (arith, m)) b)
+-- ---- after the first samples
 
-summed-held : (c : tie.After-next Inv-loop μ-loop) → toZ w64 (ofZ w64 (c .next .result .sum)) ≡ c .next .result .sum
-summed-held c = let w = sum-within (summed-ok c) in gives (search nums depth 12) tt refl
+module _ (r : tie.After-put-first2) where
+  abbrev counted : tie.After-counted
+  counted = r .before .before .before .before .before
 
-mean-of-requires : tie.Need-mean-of-requires Inv-loop μ-loop
-mean-of-requires c κs = rw (summed-held (c .before)) (summed-ok (c .before))
+  long : most counted ≤ length (pvs (start counted))
+  long = omega (arith, r .before .before .before .before .if2 .left)
 
-mul-mean : tie.Need-mul-mean Inv-loop μ-loop
-mul-mean c = search needs
+  abbrev list : List ℤ
+  list = sets (out (start counted)) 0 (meansAt (most counted) (n counted) (w (start counted) .places) (take (most counted) (pvs (start counted))))
 
-slice-set-from-mean : tie.Need-slice-set-from-mean Inv-loop μ-loop
-slice-set-from-mean c = search needs
+  sum-is : r .put-first2 .result .sum ≡ sumOf (take (most counted) (pastOf [] (pvs (start counted)) (most counted)))
+  sum-is =
+      ap (λ (x : Summed). x .sum) (r .put-first2 .ensures .0)
+      ∙ first-sum (most counted) (n counted) (w (start counted) .places) (pvs (start counted)) (few counted .0) long
 
-add-i : tie.Need-add-i Inv-loop μ-loop
-add-i c = search needs
+  sum-held : toZ w64 (ofZ w64 (r .put-first2 .result .sum)) ≡ r .put-first2 .result .sum
+  sum-held =
+      let s = start counted in
+      let b = past-bits [] (pvs s) (most counted) (λ _. record { sfits = lit< tt }) (samples-bits s) in
+      let v : Within sumMost (r .put-first2 .result .sum) = rw sum-is (sum-within (mean-ok (most counted) (pastOf [] (pvs s) (most counted)) (few counted .1) b)) in
+      gives (num-back (num-in v)) tt refl
 
-loop-less : tie.Need-loop-less Inv-loop μ-loop
-loop-less c = search needs
+put-rest-requires : tie.Need-put-rest-requires
+put-rest-requires c κs =
+    let r = c .before .before .before in
+    let t = counted r in
+    let s = start t in
+    let e = ap length (r .put-first2 .ensures .1) ∙ length-sets (out s) 0 _ in
+    (few t .1, long r, omega (arith, e, s .pre .1), samples-bits s, sum-held r ∙ sum-is r)
 
--- the mean that is put
-mean-is : (c : tie.After-mean-of Inv-loop μ-loop) →
-    let t = c .before .before in
-    let a = t .before .before .before .before .before .before .before .before .before .args in
-    let all = pastOf (a .self .places) (now (a .samples)) (t .before .before .before .loop .i + 1) in
-    toZ w32 (ofZ w32 (c .mean-of .result)) ≡ nearest (sumOf (take (then t) all)) (then t)
-mean-is c =
-    let t = c .before .before in
-    toZ-ofZ (search needs)
-    ∙ c .mean-of .ensures
-    ∙ ap₂ nearest (summed-held t ∙ ap (λ (x : Summed). x .sum) (next-is t)) (ap (λ (x : Summed). x .n) (next-is t))
+same-length-3 : tie.Need-same-length-3
+same-length-3 c = search needs
 
-loop-again : tie.Need-loop-again Inv-loop μ-loop
-loop-again c =
-    let t = c .before .before in
-    let l = t .before .before .before .loop in
-    let s = t .before .before .before .before .before .before .before .before .before in
-    let a = s .args in
-    let most = t .before .before .before .before .before .before .before .lesser .result in
-    let more = t .before .before .loop-test .taken in
-    let n : t .next .result .n ≡ then t = ap (λ (x : Summed). x .n) (next-is t) in
-    let all = pastOf (a .self .places) (now (a .samples)) (l .i + 1) in
-    let z : toZ w32 (ofZ w32 (c .mean-of .result)) ≡ nearest (sumOf (take (then t) all)) (then t) = mean-is c in (
-      omega (arith, more),
-      simp length-set (l .inv .1),
-      omega (arith, n),
-      next-is t ∙ ap (λ (k : ℕ). summedOf k all) (sym n),
-      ap (λ (k : ℕ). sets (set (l .out) (l .i) (toZ w32 (ofZ w32 (c .mean-of .result)))) (l .i + 1) (meansAt most k all (drop (l .i + 1) (now (a .samples))))) n
-          ∙ means-turn most (l .s .n) (l .i) (a .self .places) (now (a .samples)) (l .out) _ more z
-          ∙ l .inv .4,
-    )
-
-same-length : tie.Need-same-length Inv-loop μ-loop
-same-length c = c .before .loop .inv .1
-
-returns : tie.Need-returns Inv-loop μ-loop
-returns c =
-    let l = c .before .loop in
-    let b = c .before .before in
-    let s = b .before .before .before .before .before in
-    let a = s .args in
-    let w = window-fit (a .self) (s .good .0) in
-    let i : l .i ≡ length (now (a .samples)) = omega (arith, c .loop-test .left, l .inv .0) in
-    let most = b .before .before .before .lesser in
-    let n = b .before .before .counted in
-    let vs = meansAt (most .result) (n .result) (a .self .places) (now (a .samples)) in
-    means-end (most .result) (l .s .n) (l .i) _ (now (a .samples)) (l .out) (now (a .out)) vs i (omega (arith, means-long (most .result) (n .result) (a .self .places) (now (a .samples)), s .pre .1)) (l .inv .4)
-    ∙ ap (λ (xs : List ℤ). frontFilled xs (now (a .out)))
-    (ap₂ (λ (p q : ℕ). meansAt p q (a .self .places) (now (a .samples))) (most .ensures) (n .ensures)
-    ∙ sym (means-at (a .m) (a .self) (a .self .places) (now (a .samples)) (take-all window (a .self .places) (omega (arith, w .places))) (omega (arith, w .places))))
+returns-3 : tie.Need-returns-3
+returns-3 c =
+    let r = c .before .before .before .before .before in
+    let t = counted r in
+    let s = start t in
+    c .before .put-rest .ensures
+    ∙ ap (λ (x : List ℤ). sets x (most t) (meansAt (most t) (most t) (pastOf [] (pvs s) (most t)) (drop (most t) (pvs s)))) (r .put-first2 .ensures .1)
+    ∙ both-parts (most t) (n t) (w s .places) (pvs s) (few t .0) (long r) (out s)
+    ∙ front t
 
 pub put-means-spec : {M : Type 1} → statement M
 put-means-spec =
     tie.close
     (tie.spec
-    Inv-loop
-    μ-loop
+    put-samples-requires
+    same-length
+    returns
     lesser-requires
     counted-requires
-    sum-of-requires
-    loop-holds
-    next-requires
-    mean-of-requires
-    mul-mean
-    slice-set-from-mean
-    add-i
-    loop-less
-    loop-again
-    same-length
-    returns)
+    put-first-requires
+    same-length-2
+    returns-2
+    slice-aggregate-put-first
+    put-first-requires-2
+    put-rest-requires
+    same-length-3
+    returns-3)

@@ -1,0 +1,198 @@
+-- The loop's invariant: what is left to do, done from here, gives what all of it gives from the start.
+use Prim.Native.Nat.{ℕ, _+_, _-_, _<_, _≤_, min}
+use mathlib.Core.Path.{_≡_, refl, sym, ap, _∙_}
+use mathlib.Core.List.{List, []}
+use native.Mathlib.Omega.{arith}
+use borrow.Author.Needs.{needs}
+use denote.Ref.{now}
+use lib.Dec.{lit<}
+use lib.IntN.{ℤ, pos, _+ℤ_, _-ℤ_}
+use lib.ListN.{length, getD, drop, take, set, length-set}
+use lib.Seq.{sets, drop-length}
+use mir.Syntax.{w32, w64}
+use mir.Val.{SFits, toZ, ofZ}
+use mir.Facts.{toZ-ofZ}
+use Rattle.whole.specs.Numbers.{Within}
+use Rattle.whole.specs.Rounding.{nearest}
+use Rattle.whole.proofs.Num.{nums, fits, gives}
+use Rattle.window.specs.Window.{sumOf}
+use Rattle.window.specs.Means.{pastOf}
+use Rattle.window.specs.Bounds.{Bits, sumMost, MeanOk}
+use Rattle.window.specs.Running.{meansAt}
+use Rattle.window.proofs.Sums.{mean-ok, sum-within}
+use Rattle.window.proofs.Taken.{means-turn, past-bits}
+use Rattle.window.proofs.Runs.{slides}
+use Rattle.window.proofs.means.put_rest.Statement.{statement}
+use Rattle.window.proofs.means.put_rest.Tie as tie
+
+abbrev Inv-loop : tie.InvT-loop
+Inv-loop start most samples out₀ sum₀ i₀ out sum i =
+    (most ≤ i)
+    × (i ≤ length samples)
+    × (length out ≡ length out₀)
+    × (toZ w64 sum ≡ sumOf (take most (pastOf [] samples i)))
+    × (sets out i (meansAt most most (pastOf [] samples i) (drop i samples)) ≡ sets out₀ most (meansAt most most (pastOf [] samples most) (drop most samples)))
+
+abbrev μ-loop : tie.MeasureT-loop
+μ-loop start most samples out₀ sum₀ i₀ out sum i = length samples - i
+
+-- the sum of a turn as it is computed
+abbrev slid : ℤ → ℤ → ℤ → ℤ
+slid sum new gone =
+    toZ w64 (ofZ w64 (toZ w64 (ofZ w64 (sum +ℤ toZ w64 (ofZ w64 (toZ w32 (ofZ w32 new))))) -ℤ toZ w64 (ofZ w64 (toZ w32 (ofZ w32 gone)))))
+
+slid-is : (sum new gone : ℤ) → Within sumMost sum → SFits w32 new → SFits w32 gone → slid sum new gone ≡ sum +ℤ new -ℤ gone
+slid-is sum new gone h f g = gives (search nums depth 20) tt refl
+
+-- the sum that a turn begins with, and the next
+module _ (c : tie.In-loop Inv-loop μ-loop) where
+  abbrev samples : List ℤ
+  samples = now (c .before .before .args .samples)
+
+  abbrev most : ℕ
+  most = c .before .before .args .most
+
+  ok : (i : ℕ) → MeanOk (sumOf (take most (pastOf [] samples i))) most
+  ok i = mean-ok most (pastOf [] samples i) (c .before .before .pre .0) (past-bits [] samples i (λ _. record { sfits = lit< tt }) (c .before .before .pre .3))
+
+  small : Within sumMost (toZ w64 (c .before .loop .sum))
+  small = rw (c .before .loop .inv .3) (sum-within (ok (c .before .loop .i)))
+
+  fit : Bits samples
+  fit = c .before .before .pre .3
+
+  next : slid (toZ w64 (c .before .loop .sum)) (getD samples (c .before .loop .i) (pos 0)) (getD samples (c .before .loop .i - most) (pos 0))
+      ≡ sumOf (take most (pastOf [] samples (c .before .loop .i + 1)))
+  next =
+      let l = c .before .loop in
+      slid-is (toZ w64 (l .sum)) _ _ small (fit (l .i)) (fit (l .i - most))
+      ∙ ap (λ (z : ℤ). z +ℤ getD samples (l .i) (pos 0) -ℤ getD samples (l .i - most) (pos 0)) (l .inv .3)
+      ∙ slides most (l .i) samples (l .inv .0)
+
+loop-holds : tie.Need-loop-holds Inv-loop μ-loop
+loop-holds c =
+    let k = rw (← c .pre .4) at (mean-ok (c .args .most) (pastOf [] (now (c .args .samples)) (c .args .most)) (c .pre .0) (past-bits [] (now (c .args .samples)) (c .args .most) (λ _. record { sfits = lit< tt }) (c .pre .3))) in
+    let w = sum-within k in
+    let e : toZ w64 (ofZ w64 (c .args .start)) ≡ c .args .start = gives (search nums depth 12) tt refl in
+    (omega arith, c .pre .1, refl, e ∙ c .pre .4, refl)
+
+mul-new : tie.Need-mul-new Inv-loop μ-loop
+mul-new c = search needs
+
+shared-slice-copy-out-new : tie.Need-shared-slice-copy-out-new Inv-loop μ-loop
+shared-slice-copy-out-new c = search needs
+
+cast-new : tie.Need-cast-new Inv-loop μ-loop
+cast-new c =
+    let f = fit (c .before) (c .before .before .loop .i) in
+    fits (search nums depth 12) tt
+
+sub-gone : tie.Need-sub-gone Inv-loop μ-loop
+sub-gone c = c .before .before .loop .inv .0
+
+mul-gone : tie.Need-mul-gone Inv-loop μ-loop
+mul-gone c =
+    let l = c .before .before in
+    let h : l .loop .i - l .before .args .most < length (now (l .before .args .samples)) = omega (arith, c .before .loop-test .taken) in
+    search needs
+
+shared-slice-copy-out-gone : tie.Need-shared-slice-copy-out-gone Inv-loop μ-loop
+shared-slice-copy-out-gone c = omega (arith, c .before .loop-test .taken)
+
+cast-gone : tie.Need-cast-gone Inv-loop μ-loop
+cast-gone c =
+    let l = c .before .before in
+    let f = fit l (l .before .loop .i - most l) in
+    fits (search nums depth 12) tt
+
+add-sum : tie.Need-add-sum Inv-loop μ-loop
+add-sum c =
+    let l = c .before .before in
+    let f = fit l (l .before .loop .i) in
+    let w = small l in
+    fits (search nums depth 12) tt
+
+sub-sum : tie.Need-sub-sum Inv-loop μ-loop
+sub-sum c =
+    let l = c .before .before in
+    let f = fit l (l .before .loop .i) in
+    let g = fit l (l .before .loop .i - most l) in
+    let w = small l in
+    fits (search nums depth 20) tt
+
+mean-of-requires : tie.Need-mean-of-requires Inv-loop μ-loop
+mean-of-requires c κs =
+    let l = c .before .before in
+    rw (next l) (ok l (l .before .loop .i + 1))
+
+mul-mean : tie.Need-mul-mean Inv-loop μ-loop
+mul-mean c = search needs
+
+slice-set-from-mean : tie.Need-slice-set-from-mean Inv-loop μ-loop
+slice-set-from-mean c =
+    let l = c .before .before .before in
+    omega (arith, l .loop-test .taken, l .before .loop .inv .2, l .before .before .pre .2)
+
+add-i : tie.Need-add-i Inv-loop μ-loop
+add-i c = search needs
+
+loop-less : tie.Need-loop-less Inv-loop μ-loop
+loop-less c = search needs
+
+loop-again : tie.Need-loop-again Inv-loop μ-loop
+loop-again c =
+    let t = c .before .before .before in
+    let l = t .before .loop in
+    let m = most t in
+    let more = t .loop-test .taken in
+    let k : min m (m + 1) ≡ m = omega arith in
+    let all = pastOf [] (samples t) (l .i + 1) in
+    let z : toZ w32 (ofZ w32 (c .mean-of .result)) ≡ nearest (sumOf (take (min m (m + 1)) all)) (min m (m + 1)) =
+    toZ-ofZ (search needs)
+    ∙ c .mean-of .ensures
+    ∙ ap (λ (x : ℤ). nearest x m) (next t)
+    ∙ ap (λ (j : ℕ). nearest (sumOf (take j all)) j) (sym k)
+    in (
+      omega (arith, l .inv .0),
+      omega (arith, more),
+      simp length-set (l .inv .2),
+      next t,
+      ap (λ (j : ℕ). sets (set (l .out) (l .i) (toZ w32 (ofZ w32 (c .mean-of .result)))) (l .i + 1) (meansAt m j all (drop (l .i + 1) (samples t)))) (sym k)
+          ∙ means-turn m m (l .i) [] (samples t) (l .out) _ more z
+          ∙ l .inv .4,
+    )
+
+same-length : tie.Need-same-length Inv-loop μ-loop
+same-length c = c .before .loop .inv .2
+
+returns : tie.Need-returns Inv-loop μ-loop
+returns c =
+    let l = c .before .loop in
+    let s = now (c .before .before .args .samples) in
+    let i : l .i ≡ length s = omega (arith, c .loop-test .left, l .inv .1) in
+    rw (i, drop-length s) at (l .inv .4)
+
+pub put-rest-spec : {M : Type 1} → statement M
+put-rest-spec =
+    tie.close
+    (tie.spec
+    Inv-loop
+    μ-loop
+    loop-holds
+    mul-new
+    shared-slice-copy-out-new
+    cast-new
+    sub-gone
+    mul-gone
+    shared-slice-copy-out-gone
+    cast-gone
+    add-sum
+    sub-sum
+    mean-of-requires
+    mul-mean
+    slice-set-from-mean
+    add-i
+    loop-less
+    loop-again
+    same-length
+    returns)
