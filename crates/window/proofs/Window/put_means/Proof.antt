@@ -146,7 +146,7 @@ put-rest-requires c κs =
     let r = c .before .before .before in
     let t = counted r in
     let s = start t in
-    let e = ap length (r .put-first2 .ensures .1) ∙ length-sets (out s) 0 _ in
+    let e = ap length (r .put-first2 .ensures .1) ∙ length-sets (out s) 0 (meansAt (most t) (n t) (w s .places) (take (most t) (pvs s))) in
     (few t .1, long r, omega (arith, e, s .pre .1), samples-bits s, sum-held r ∙ sum-is r)
 
 same-length-3 : tie.Need-same-length-3
