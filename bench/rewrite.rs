@@ -83,9 +83,8 @@ fn mean(sum: i32, reciprocal: i64) -> i32 {
     ((i64::from(sum) * reciprocal + (1 << 39)) >> 40) as i32
 }
 
-impl Loop {
-    /// A fresh loop of settings whose values stand in the order of the text, automatic, with a gain set and a target.
-    pub fn new(values: &[i32; VALUES], set: usize, target: i32) -> Loop {
+impl Settings {
+    fn new(values: &[i32; VALUES]) -> Settings {
         let value = |i: usize| i64::from(values[i]);
         let gains = |k: usize| {
             let first = ONCE + GAINS * k;
@@ -97,7 +96,7 @@ impl Loop {
                 kt: value(first + 4),
             }
         };
-        let settings = Settings {
+        Settings {
             action: value(0),
             lo: value(1),
             hi: value(2),
@@ -106,7 +105,14 @@ impl Loop {
             rate: value(5),
             mean: values[MEAN] as usize,
             gains: std::array::from_fn(gains),
-        };
+        }
+    }
+}
+
+impl Loop {
+    /// A fresh loop of settings whose values stand in the order of the text, automatic, with a gain set and a target.
+    pub fn new(values: &[i32; VALUES], set: usize, target: i32) -> Loop {
+        let settings = Settings::new(values);
         Loop {
             settings,
             automatic: true,

@@ -8,12 +8,20 @@ mod papers;
 use common::{across_a_cut, for_each_seed, odd_lines, same, words_of_digits, Program};
 use host::delivery::Delivery;
 use host::law::Command;
+use host::rng::Rng;
 use host::settings::Settings;
 use host::{example, gen, journal};
 use papers::{delivered_with_mean_2, edges_told, short_c, FORMS, JOURNAL_WITH_MEAN_2, MEANS};
 
 fn journal_agrees(program: &Program, settings: &[u8], deliveries: &[u8]) {
     same("journal", &program.run(settings, deliveries), &journal::run(settings, deliveries));
+}
+
+/// A list of so many deliveries to a loop of these settings.
+fn list_agrees(program: &Program, rng: &mut Rng, settings: &Settings, count: usize) {
+    let deliveries = gen::deliveries(rng, settings, count);
+    let text = gen::settings_text(rng, settings);
+    journal_agrees(program, &text, &gen::deliveries_file(&deliveries));
 }
 
 #[test]
@@ -116,9 +124,7 @@ fn long_lists_of_each_mean_are_answered_alike() {
     for mean in MEANS {
         for_each_seed(20, |rng| {
             let settings = Settings { mean, ..gen::settings(rng) };
-            let deliveries = gen::deliveries(rng, &settings, 1_000);
-            let text = gen::settings_text(rng, &settings);
-            journal_agrees(&program, &text, &gen::deliveries_file(&deliveries));
+            list_agrees(&program, rng, &settings, 1_000);
         });
     }
 }
@@ -128,9 +134,7 @@ fn random_deliveries_are_answered_alike() {
     let program = Program::new("journal");
     for_each_seed(500, |rng| {
         let settings = gen::settings(rng);
-        let deliveries = gen::deliveries(rng, &settings, 420);
-        let text = gen::settings_text(rng, &settings);
-        journal_agrees(&program, &text, &gen::deliveries_file(&deliveries));
+        list_agrees(&program, rng, &settings, 420);
     });
 }
 
