@@ -5,19 +5,16 @@ use mathlib.Core.Bool.{Bool, true, false, cond}
 use mathlib.Core.List.{List, [], _∷_}
 use native.Mathlib.Numerals.{add-one}
 use native.Mathlib.Omega.{arith}
-use lib.Dec.{lit<}
 use lib.IntN.{ℤ, pos, negsuc}
 use lib.ListN.{length, drop, getD}
 use lib.Seq.{drop-cons, drop-length}
-use mir.Syntax.{w32}
-use mir.Val.{SFits}
 use Rattle.whole.proofs.Truth.{by-test}
 use Rattle.whole.proofs.Parts.{zs, inside-yes}
 use Rattle.whole.proofs.Lin.{at}
 use Rattle.settings.specs.Table.{reach, inReach}
 use Rattle.window.specs.Means.{firstBad}
 use Rattle.window.specs.Bounds.{Bits}
-use Rattle.window.proofs.Sums.{between-bits}
+use Rattle.window.proofs.Sums.{Each, between-bits}
 
 -- a list without a bad sample: its first is good, and so is the rest
 pub first-good : (pv : ℤ) (pvs : List ℤ) → firstBad (pv ∷ pvs) ≡ suc (length pvs) → (inReach pv ≡ true) × (firstBad pvs ≡ length pvs)
@@ -77,16 +74,17 @@ pub none-left : (pvs : List ℤ) (i : ℕ) → i ≡ length pvs → firstBad (dr
 unfolding firstBad
 none-left pvs i e = rw (e, drop-length pvs)
 
--- a list without one is of numbers of 32 bits
-reach-bits : (z : ℤ) → inReach z ≡ true → SFits w32 z
-reach-bits z e =
+-- each sample of a list without one lies in range, and so fits 32 bits
+pub good-each : (pvs : List ℤ) → firstBad pvs ≡ length pvs → Each (negsuc 999999) (pos reach) pvs
+good-each [] e i = inside-yes (negsuc 999999) (pos reach) (pos 0) refl
+good-each (pv ∷ pvs) e zero = inside-yes (negsuc 999999) (pos reach) pv (first-good pv pvs e .0)
+good-each (pv ∷ pvs) e (suc i) = good-each pvs (first-good pv pvs e .1) i
+
+pub good-bits : (pvs : List ℤ) → firstBad pvs ≡ length pvs → Bits pvs
+good-bits pvs e i =
+    let z = getD pvs i (pos 0) in
     let Z = at z in
-    let b = inside-yes (negsuc 999999) (pos reach) z e in
+    let b = good-each pvs e i in
     let l = b .low in
     let h = b .high in
     between-bits z (record { low = omega (arith, zs); high = omega (arith, zs) })
-
-pub good-bits : (pvs : List ℤ) → firstBad pvs ≡ length pvs → Bits pvs
-good-bits [] e i = record { sfits = lit< tt }
-good-bits (pv ∷ pvs) e zero = reach-bits pv (first-good pv pvs e .0)
-good-bits (pv ∷ pvs) e (suc i) = good-bits pvs (first-good pv pvs e .1) i

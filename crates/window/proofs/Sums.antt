@@ -15,7 +15,7 @@ use Rattle.whole.specs.Rounding.{halfUp, nearest}
 use Rattle.whole.proofs.Parts.{zs, Between}
 use Rattle.whole.proofs.Lin.{Lin, at, lins}
 use Rattle.whole.proofs.Nearest.{nearest-mono, nearest-exact}
-use Rattle.settings.specs.Table.{window}
+use Rattle.settings.specs.Table.{reach, window}
 use Rattle.window.specs.Window.{sumOf, meanOf}
 use Rattle.window.specs.Bounds.{Bits, sumMost, MeanOk}
 
@@ -131,4 +131,16 @@ sum-within {sum} {n} k =
     let h = k .high in
     let L : Lin (negsuc 2147483647 *ℤ pos n) = search lins in
     let H : Lin (pos 2147483647 *ℤ pos n) = search lins in
+    omega (arith, zs)
+
+-- the sum of temperatures in range, so many as the window has places
+pub sum-reach : (n : ℕ) (xs : List ℤ) → n ≤ window → Each (negsuc 999999) (pos reach) xs → Within 128000000 (sumOf (take n xs))
+sum-reach n xs h e =
+    let s = sumOf (take n xs) in
+    let S = at s in
+    let b = sum-between (negsuc 999999) (pos reach) n xs e in
+    let l = b .low in
+    let u = b .high in
+    let L : Lin (negsuc 999999 *ℤ pos n) = search lins in
+    let H : Lin (pos reach *ℤ pos n) = search lins in
     omega (arith, zs)

@@ -21,7 +21,7 @@ use Rattle.window.specs.Means.{firstBad, afterAll, meansOf, frontFilled,
 use Rattle.window.specs.declared.means.Summed.{Summed}
 use Rattle.window.specs.Bounds.{Bits, summedOf}
 use Rattle.window.specs.Running.{onto, countedOn, meansAt}
-use Rattle.window.proofs.Sums.{sum-next}
+use Rattle.window.proofs.Sums.{Each, sum-next}
 
 -- ---- the last of those seen
 
@@ -127,6 +127,12 @@ pub past-long : (old s : List ℤ) (n : ℕ) → length (pastOf old s n) ≡ len
 unfolding pastOf
 past-long old s zero = omega arith
 past-long old s (suc n) = omega (arith, past-long old s n)
+
+pub past-each : (lo hi : ℤ) (old s : List ℤ) (n : ℕ) → Each lo hi old → Each lo hi s → Each lo hi (pastOf old s n)
+unfolding pastOf
+past-each lo hi old s zero e f i = e i
+past-each lo hi old s (suc n) e f zero = f n
+past-each lo hi old s (suc n) e f (suc i) = past-each lo hi old s n e f i
 
 pub past-bits : (old s : List ℤ) (n : ℕ) → Bits old → Bits s → Bits (pastOf old s n)
 unfolding pastOf

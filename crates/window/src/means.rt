@@ -95,18 +95,17 @@ fn put_first(
     s
 }
 
-// The mean after each of the others. What leaves the sum is read from the samples themselves.
-fn put_rest(start: i64, most: usize, samples: &[i32], out: &mut [i32])
-    requires { ⌜ (most ≤ window) × (most ≤ length (now samples)) × (length (now samples) ≤ length (now out)) × Bits (now samples) × (start ≡ sumOf (take most (pastOf [] (now samples) most))) ⌝ }
+// The mean after each of the others. What leaves the sum is read from the samples themselves; they lie in range, so that the sum
+// fits 32 bits, and the division is one of 32.
+fn put_rest(start: i32, most: usize, samples: &[i32], out: &mut [i32])
+    requires { ⌜ (most ≤ window) × (most ≤ length (now samples)) × (length (now samples) ≤ length (now out)) × (firstBad (now samples) ≡ length (now samples)) × (start ≡ sumOf (take most (pastOf [] (now samples) most))) ⌝ }
     ensures { λ _. ⌜ now (out .exit) ≡ sets (now (out .entry)) most (meansAt most most (pastOf [] (now (samples .entry)) most) (drop most (now (samples .entry)))) ⌝ }
 {
     let mut sum = start;
     let mut i = most;
     while i < samples.len() {
-        let new = samples[i] as i64;
-        let gone = samples[i - most] as i64;
-        sum = sum + new - gone;
-        let mean = mean_of(sum, most);
+        sum = sum + samples[i] - samples[i - most];
+        let mean = mean_of(sum as i64, most);
         out[i] = mean;
         i += 1;
     }
@@ -143,7 +142,7 @@ impl Window {
             return;
         }
         let s = put_first(&places, most, n, &samples[..most], out);
-        put_rest(s.sum, most, samples, out);
+        put_rest(s.sum as i32, most, samples, out);
     }
 
     // "Code 4 tests the raw one": the place of the first bad sample, or the length. Where none is bad, the mean after each is put in

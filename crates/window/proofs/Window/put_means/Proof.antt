@@ -4,25 +4,25 @@ use mathlib.Core.List.{List, []}
 use native.Mathlib.Omega.{arith}
 use borrow.Author.Needs.{needs}
 use denote.Ref.{now}
-use lib.Dec.{lit<}
-use lib.IntN.{ℤ}
+use lib.IntN.{ℤ, pos, negsuc}
 use lib.ListN.{length, take, drop}
 use lib.Seq.{sets, take-all, length-take-le, length-sets}
 use mir.Syntax.{w64}
 use mir.Val.{toZ, ofZ}
 use Rattle.whole.specs.Numbers.{Within}
-use Rattle.whole.proofs.Num.{num-in, num-back, gives}
-use Rattle.settings.specs.Table.{window}
+use Rattle.whole.proofs.Parts.{inside-yes}
+use Rattle.whole.proofs.Num.{nums, fits, gives}
+use Rattle.settings.specs.Table.{reach, window}
 use Rattle.window.specs.declared.Window.{Window}
 use Rattle.window.specs.declared.means.Summed.{Summed}
 use Rattle.window.specs.Window.{sumOf}
 use Rattle.window.specs.Means.{meansOf, frontFilled, pastOf}
-use Rattle.window.specs.Bounds.{Bits, sumMost}
+use Rattle.window.specs.Bounds.{Bits}
 use Rattle.window.specs.Running.{meansAt}
 use Rattle.window.proofs.Fit.{window-fit}
-use Rattle.window.proofs.Sums.{bits-take, mean-ok, sum-within}
-use Rattle.window.proofs.Bad.{good-bits}
-use Rattle.window.proofs.Taken.{means-at, means-length, sets-front, past-bits}
+use Rattle.window.proofs.Sums.{bits-take, sum-reach}
+use Rattle.window.proofs.Bad.{good-each, good-bits}
+use Rattle.window.proofs.Taken.{means-at, means-length, sets-front, past-each}
 use Rattle.window.proofs.Runs.{means-one, first-sum, both-parts}
 use Rattle.window.proofs.Window.put_means.Statement.{statement}
 use Rattle.window.proofs.Window.put_means.Tie as tie
@@ -134,27 +134,33 @@ module _ (r : tie.After-put-first2) where
       ap (λ (x : Summed). x .sum) (r .put-first2 .ensures .0)
       ∙ first-sum (most counted) (n counted) (w (start counted) .places) (pvs (start counted)) (few counted .0) long
 
-  sum-held : toZ w64 (ofZ w64 (r .put-first2 .result .sum)) ≡ r .put-first2 .result .sum
-  sum-held =
+  sum-small : Within 128000000 (r .put-first2 .result .sum)
+  sum-small =
       let s = start counted in
-      let b = past-bits [] (pvs s) (most counted) (λ _. record { sfits = lit< tt }) (samples-bits s) in
-      let v : Within sumMost (r .put-first2 .result .sum) = rw sum-is (sum-within (mean-ok (most counted) (pastOf [] (pvs s) (most counted)) (few counted .1) b)) in
-      gives (num-back (num-in v)) tt refl
+      rw sum-is
+      (sum-reach (most counted) _ (few counted .1)
+      (past-each _ _ [] (pvs s) (most counted) (λ _. inside-yes (negsuc 999999) (pos reach) (pos 0) refl) (good-each (pvs s) (s .pre .0))))
+
+cast-put-rest : tie.Need-cast-put-rest
+cast-put-rest c =
+    let v = sum-small (c .before .before .before) in
+    fits (search nums depth 12) tt
 
 put-rest-requires : tie.Need-put-rest-requires
 put-rest-requires c κs =
-    let r = c .before .before .before in
+    let r = c .before .before .before .before in
     let t = counted r in
     let s = start t in
+    let v = sum-small r in
     let e = ap length (r .put-first2 .ensures .1) ∙ length-sets (out s) 0 (meansAt (most t) (n t) (w s .places) (take (most t) (pvs s))) in
-    (few t .1, long r, omega (arith, e, s .pre .1), samples-bits s, sum-held r ∙ sum-is r)
+    (few t .1, long r, omega (arith, e, s .pre .1), s .pre .0, gives (search nums depth 12) tt (sum-is r))
 
 same-length-3 : tie.Need-same-length-3
 same-length-3 c = search needs
 
 returns-3 : tie.Need-returns-3
 returns-3 c =
-    let r = c .before .before .before .before .before in
+    let r = c .before .before .before .before .before .before in
     let t = counted r in
     let s = start t in
     c .before .put-rest .ensures
@@ -176,6 +182,7 @@ put-means-spec =
     returns-2
     slice-aggregate-put-first
     put-first-requires-2
+    cast-put-rest
     put-rest-requires
     same-length-3
     returns-3)

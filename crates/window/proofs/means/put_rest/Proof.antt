@@ -6,21 +6,24 @@ use native.Mathlib.Omega.{arith}
 use borrow.Author.Needs.{needs}
 use denote.Ref.{now}
 use lib.Dec.{lit<}
-use lib.IntN.{ℤ, pos, _+ℤ_, _-ℤ_}
+use lib.IntN.{ℤ, pos, negsuc, _+ℤ_, _-ℤ_}
 use lib.ListN.{length, getD, drop, take, set, length-set}
 use lib.Seq.{sets, drop-length}
 use mir.Syntax.{w32, w64}
-use mir.Val.{SFits, toZ, ofZ}
+use mir.Val.{toZ, ofZ}
 use mir.Facts.{toZ-ofZ}
 use Rattle.whole.specs.Numbers.{Within}
 use Rattle.whole.specs.Rounding.{nearest}
-use Rattle.whole.proofs.Num.{nums, fits, gives}
+use Rattle.whole.proofs.Parts.{zs, inside-yes}
+use Rattle.whole.proofs.Lin.{at}
+use Rattle.whole.proofs.Num.{nums, num-in, num-back, fits, gives}
+use Rattle.settings.specs.Table.{reach, window}
 use Rattle.window.specs.Window.{sumOf}
-use Rattle.window.specs.Means.{pastOf}
-use Rattle.window.specs.Bounds.{Bits, sumMost, MeanOk}
+use Rattle.window.specs.Means.{firstBad, pastOf}
 use Rattle.window.specs.Running.{meansAt}
-use Rattle.window.proofs.Sums.{mean-ok, sum-within}
-use Rattle.window.proofs.Taken.{means-turn, past-bits}
+use Rattle.window.proofs.Sums.{mean-ok, sum-reach}
+use Rattle.window.proofs.Bad.{good-each, good-bits}
+use Rattle.window.proofs.Taken.{means-turn, past-each, past-bits}
 use Rattle.window.proofs.Runs.{slides}
 use Rattle.window.proofs.means.put_rest.Statement.{statement}
 use Rattle.window.proofs.means.put_rest.Tie as tie
@@ -30,7 +33,7 @@ Inv-loop start most samples out₀ sum₀ i₀ out sum i =
     (most ≤ i)
     × (i ≤ length samples)
     × (length out ≡ length out₀)
-    × (toZ w64 sum ≡ sumOf (take most (pastOf [] samples i)))
+    × (toZ w32 sum ≡ sumOf (take most (pastOf [] samples i)))
     × (sets out i (meansAt most most (pastOf [] samples i) (drop i samples)) ≡ sets out₀ most (meansAt most most (pastOf [] samples most) (drop most samples)))
 
 abbrev μ-loop : tie.MeasureT-loop
@@ -38,11 +41,15 @@ abbrev μ-loop : tie.MeasureT-loop
 
 -- the sum of a turn as it is computed
 abbrev slid : ℤ → ℤ → ℤ → ℤ
-slid sum new gone =
-    toZ w64 (ofZ w64 (toZ w64 (ofZ w64 (sum +ℤ toZ w64 (ofZ w64 (toZ w32 (ofZ w32 new))))) -ℤ toZ w64 (ofZ w64 (toZ w32 (ofZ w32 gone)))))
+slid sum new gone = toZ w32 (ofZ w32 (toZ w32 (ofZ w32 (sum +ℤ toZ w32 (ofZ w32 new))) -ℤ toZ w32 (ofZ w32 gone)))
 
-slid-is : (sum new gone : ℤ) → Within sumMost sum → SFits w32 new → SFits w32 gone → slid sum new gone ≡ sum +ℤ new -ℤ gone
+slid-is : (sum new gone : ℤ) → Within 128000000 sum → Within reach new → Within reach gone → slid sum new gone ≡ sum +ℤ new -ℤ gone
 slid-is sum new gone h f g = gives (search nums depth 20) tt refl
+
+-- the sum of the last of the samples is small
+past-small : (n i : ℕ) (s : List ℤ) → n ≤ window → firstBad s ≡ length s → Within 128000000 (sumOf (take n (pastOf [] s i)))
+past-small n i s h g =
+    sum-reach n (pastOf [] s i) h (past-each _ _ [] s i (λ _. inside-yes (negsuc 999999) (pos reach) (pos 0) refl) (good-each s g))
 
 -- the sum that a turn begins with, and the next
 module _ (c : tie.In-loop Inv-loop μ-loop) where
@@ -52,78 +59,83 @@ module _ (c : tie.In-loop Inv-loop μ-loop) where
   abbrev most : ℕ
   most = c .before .before .args .most
 
-  ok : (i : ℕ) → MeanOk (sumOf (take most (pastOf [] samples i))) most
-  ok i = mean-ok most (pastOf [] samples i) (c .before .before .pre .0) (past-bits [] samples i (λ _. record { sfits = lit< tt }) (c .before .before .pre .3))
+  small : Within 128000000 (toZ w32 (c .before .loop .sum))
+  small = rw (c .before .loop .inv .3) (past-small most (c .before .loop .i) samples (c .before .before .pre .0) (c .before .before .pre .3))
 
-  small : Within sumMost (toZ w64 (c .before .loop .sum))
-  small = rw (c .before .loop .inv .3) (sum-within (ok (c .before .loop .i)))
+  sample-in : (i : ℕ) → Within reach (getD samples i (pos 0))
+  sample-in i =
+      let z = getD samples i (pos 0) in
+      let Z = at z in
+      let b = good-each samples (c .before .before .pre .3) i in
+      let l = b .low in
+      let h = b .high in
+      omega (arith, zs)
 
-  fit : Bits samples
-  fit = c .before .before .pre .3
-
-  next : slid (toZ w64 (c .before .loop .sum)) (getD samples (c .before .loop .i) (pos 0)) (getD samples (c .before .loop .i - most) (pos 0))
+  next : slid (toZ w32 (c .before .loop .sum)) (getD samples (c .before .loop .i) (pos 0)) (getD samples (c .before .loop .i - most) (pos 0))
       ≡ sumOf (take most (pastOf [] samples (c .before .loop .i + 1)))
   next =
       let l = c .before .loop in
-      slid-is (toZ w64 (l .sum)) _ _ small (fit (l .i)) (fit (l .i - most))
+      slid-is (toZ w32 (l .sum)) _ _ small (sample-in (l .i)) (sample-in (l .i - most))
       ∙ ap (λ (z : ℤ). z +ℤ getD samples (l .i) (pos 0) -ℤ getD samples (l .i - most) (pos 0)) (l .inv .3)
       ∙ slides most (l .i) samples (l .inv .0)
 
+  next-small : Within 128000000 (sumOf (take most (pastOf [] samples (c .before .loop .i + 1))))
+  next-small = past-small most (c .before .loop .i + 1) samples (c .before .before .pre .0) (c .before .before .pre .3)
+
+  -- as it is handed on
+  handed : toZ w64 (ofZ w64 (slid (toZ w32 (c .before .loop .sum)) (getD samples (c .before .loop .i) (pos 0)) (getD samples (c .before .loop .i - most) (pos 0))))
+      ≡ sumOf (take most (pastOf [] samples (c .before .loop .i + 1)))
+  handed = rw next (gives (num-back (num-in next-small)) tt refl)
+
 loop-holds : tie.Need-loop-holds Inv-loop μ-loop
 loop-holds c =
-    let k = rw (← c .pre .4) at (mean-ok (c .args .most) (pastOf [] (now (c .args .samples)) (c .args .most)) (c .pre .0) (past-bits [] (now (c .args .samples)) (c .args .most) (λ _. record { sfits = lit< tt }) (c .pre .3))) in
-    let w = sum-within k in
-    let e : toZ w64 (ofZ w64 (c .args .start)) ≡ c .args .start = gives (search nums depth 12) tt refl in
+    let v : Within 128000000 (c .args .start) = rw (c .pre .4) (past-small (c .args .most) (c .args .most) (now (c .args .samples)) (c .pre .0) (c .pre .3)) in
+    let e : toZ w32 (ofZ w32 (c .args .start)) ≡ c .args .start = gives (search nums depth 12) tt refl in
     (omega arith, c .pre .1, refl, e ∙ c .pre .4, refl)
 
-mul-new : tie.Need-mul-new Inv-loop μ-loop
-mul-new c = search needs
+mul-sum : tie.Need-mul-sum Inv-loop μ-loop
+mul-sum c = search needs
 
-shared-slice-copy-out-new : tie.Need-shared-slice-copy-out-new Inv-loop μ-loop
-shared-slice-copy-out-new c = search needs
-
-cast-new : tie.Need-cast-new Inv-loop μ-loop
-cast-new c =
-    let f = fit (c .before) (c .before .before .loop .i) in
-    fits (search nums depth 12) tt
-
-sub-gone : tie.Need-sub-gone Inv-loop μ-loop
-sub-gone c = c .before .before .loop .inv .0
-
-mul-gone : tie.Need-mul-gone Inv-loop μ-loop
-mul-gone c =
-    let l = c .before .before in
-    let h : l .loop .i - l .before .args .most < length (now (l .before .args .samples)) = omega (arith, c .before .loop-test .taken) in
-    search needs
-
-shared-slice-copy-out-gone : tie.Need-shared-slice-copy-out-gone Inv-loop μ-loop
-shared-slice-copy-out-gone c = omega (arith, c .before .loop-test .taken)
-
-cast-gone : tie.Need-cast-gone Inv-loop μ-loop
-cast-gone c =
-    let l = c .before .before in
-    let f = fit l (l .before .loop .i - most l) in
-    fits (search nums depth 12) tt
+shared-slice-copy-out-sum : tie.Need-shared-slice-copy-out-sum Inv-loop μ-loop
+shared-slice-copy-out-sum c = search needs
 
 add-sum : tie.Need-add-sum Inv-loop μ-loop
 add-sum c =
-    let l = c .before .before in
-    let f = fit l (l .before .loop .i) in
+    let l = c .before in
+    let f = sample-in l (l .before .loop .i) in
     let w = small l in
     fits (search nums depth 12) tt
 
 sub-sum : tie.Need-sub-sum Inv-loop μ-loop
-sub-sum c =
+sub-sum c = c .before .before .loop .inv .0
+
+mul-sum-2 : tie.Need-mul-sum-2 Inv-loop μ-loop
+mul-sum-2 c =
     let l = c .before .before in
-    let f = fit l (l .before .loop .i) in
-    let g = fit l (l .before .loop .i - most l) in
+    let h : l .loop .i - l .before .args .most < length (now (l .before .args .samples)) = omega (arith, c .before .loop-test .taken) in
+    search needs
+
+shared-slice-copy-out-sum-2 : tie.Need-shared-slice-copy-out-sum-2 Inv-loop μ-loop
+shared-slice-copy-out-sum-2 c = omega (arith, c .before .loop-test .taken)
+
+sub-sum-2 : tie.Need-sub-sum-2 Inv-loop μ-loop
+sub-sum-2 c =
+    let l = c .before .before in
+    let f = sample-in l (l .before .loop .i) in
+    let g = sample-in l (l .before .loop .i - most l) in
     let w = small l in
     fits (search nums depth 20) tt
+
+cast-mean-of : tie.Need-cast-mean-of Inv-loop μ-loop
+cast-mean-of c =
+    let l = c .before .before in
+    rw (next l) (fits (num-in (next-small l)) tt)
 
 mean-of-requires : tie.Need-mean-of-requires Inv-loop μ-loop
 mean-of-requires c κs =
     let l = c .before .before in
-    rw (next l) (ok l (l .before .loop .i + 1))
+    rw (handed l)
+    (mean-ok (most l) _ (l .before .before .pre .0) (past-bits [] (samples l) (l .before .loop .i + 1) (λ _. record { sfits = lit< tt }) (good-bits (samples l) (l .before .before .pre .3))))
 
 mul-mean : tie.Need-mul-mean Inv-loop μ-loop
 mul-mean c = search needs
@@ -150,7 +162,7 @@ loop-again c =
     let z : toZ w32 (ofZ w32 (c .mean-of .result)) ≡ nearest (sumOf (take (min m (m + 1)) all)) (min m (m + 1)) =
     toZ-ofZ (search needs)
     ∙ c .mean-of .ensures
-    ∙ ap (λ (x : ℤ). nearest x m) (next t)
+    ∙ ap (λ (x : ℤ). nearest x m) (handed t)
     ∙ ap (λ (j : ℕ). nearest (sumOf (take j all)) j) (sym k)
     in (
       omega (arith, l .inv .0),
@@ -179,15 +191,14 @@ put-rest-spec =
     Inv-loop
     μ-loop
     loop-holds
-    mul-new
-    shared-slice-copy-out-new
-    cast-new
-    sub-gone
-    mul-gone
-    shared-slice-copy-out-gone
-    cast-gone
+    mul-sum
+    shared-slice-copy-out-sum
     add-sum
     sub-sum
+    mul-sum-2
+    shared-slice-copy-out-sum-2
+    sub-sum-2
+    cast-mean-of
     mean-of-requires
     mul-mean
     slice-set-from-mean
