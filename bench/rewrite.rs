@@ -216,13 +216,7 @@ impl Loop {
         if let Some(place) = samples.iter().position(|pv| !(-1_000_000..=1_000_000).contains(pv)) {
             return Err(place);
         }
-        if self.settings.mean == 1 {
-            for (pv, u) in samples.iter().zip(out.iter_mut()) {
-                *u = self.sample(*pv);
-            }
-        } else {
-            self.sample_means(samples, out);
-        }
+        self.sample_means(samples, out);
         self.keep(samples);
         if let Some(pv) = samples.last() {
             self.number += samples.len() as u32;
