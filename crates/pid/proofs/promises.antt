@@ -3,3 +3,4 @@ pub mod Demand1
 pub mod Demand2
 pub mod Play
 pub mod Examples
+pub mod Mean

@@ -5,3 +5,4 @@ pub mod Bounds
 pub mod Law
 pub mod Play
 pub mod Run
+pub mod Plain

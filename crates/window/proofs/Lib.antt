@@ -5,3 +5,4 @@ pub mod Rules
 pub mod Taken
 pub mod Runs
 pub mod Good
+pub mod promises

@@ -80,12 +80,16 @@ taken-ok w pv e p =
     let m : min window (w .seen + 1) ≡ suc (min (window - 1) (w .seen)) = omega arith in
     rw m (and (le-leb (suc (min (window - 1) (w .seen))) window (omega arith)) (and p (places-front (w .seen) (window - 1) (w .places) (b .1))))
 
--- the mean of temperatures in range lies in range
+-- those that a mean goes over lie in range
+pub latest-each : (m : ℕ) (w : Window) → windowOk w ≡ true → Each (negsuc 999999) (pos reach) (latest m w)
+unfolding windowOk
+latest-each m w e =
+    let b = both (leb (w .seen) window) (placesOk (w .seen) (w .places)) e in
+    each-take _ _ m _ (each-take _ _ (w .seen) _ (places-each (w .seen) (w .places) (b .1)))
+
+-- and so does their mean
 pub mean-in : (m : ℕ) (w : Window) (pv : ℤ) → windowOk w ≡ true → inReach pv ≡ true → inReach (meanAt m w pv) ≡ true
-unfolding meanAt windowOk
+unfolding meanAt
 mean-in m w pv e p =
-    let v = taken w pv in
-    let b = both (leb (v .seen) window) (placesOk (v .seen) (v .places)) (taken-ok w pv e p) in
-    let each = places-each (v .seen) (v .places) (b .1) in
     yes-inside (negsuc 999999) (pos reach) (meanAt m w pv)
-    (mean-between (negsuc 999999) (pos reach) (latest m v) (each-take _ _ m _ (each-take _ _ (v .seen) _ each)))
+    (mean-between (negsuc 999999) (pos reach) (latest m (taken w pv)) (latest-each m (taken w pv) (taken-ok w pv e p)))
