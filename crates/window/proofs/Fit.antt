@@ -1,13 +1,12 @@
 -- What owning a window tells of it: each place fits its type, and there are as many as the request says. `window-fit` takes a
 -- parameter's `c .good .0`, or what a call's result `.ok` says.
-use Prim.Native.Nat.{ℕ, zero, suc}
+use Prim.Native.Nat.{zero, suc}
 use mathlib.Core.Path.{_≡_}
 use mathlib.Core.List.{List, [], _∷_, map}
 use lib.Dec.{lit<}
-use lib.IntN.{ℤ, pos}
-use lib.ListN.{length, getD, length-map}
-use mir.Syntax.{w32}
-use mir.Val.{Val, SFits}
+use lib.IntN.{ℤ}
+use lib.ListN.{length, length-map}
+use mir.Val.{Val}
 use denote.Array.{each}
 use denote.Shadow.{shadow}
 use denote.Laws.{Is}

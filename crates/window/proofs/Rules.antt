@@ -1,14 +1,13 @@
 -- The state rules of the window: place by place, what they say of its temperatures, and that they hold again.
-use Prim.Native.Nat.{ℕ, zero, suc, _+_, _-_, _<_, _≤_, min}
-use mathlib.Core.Path.{_≡_, refl, sym, ap, subst, _∙_}
-use mathlib.Core.Bool.{Bool, true, false, cond, _&&_}
+use Prim.Native.Nat.{ℕ, zero, suc, _+_, _-_, _<_, min}
+use mathlib.Core.Path.{_≡_, refl, sym, subst}
+use mathlib.Core.Bool.{true, _&&_}
 use mathlib.Core.List.{List, [], _∷_}
 use native.Mathlib.Omega.{arith}
-use borrow.Author.Tests.{ltb-true, ltb-false, leb-true, le-leb}
+use borrow.Author.Tests.{ltb-true, ltb-false, le-leb}
 use lib.Dec.{ltb, leb}
 use lib.IntN.{ℤ, pos, negsuc}
 use lib.ListN.{length, getD, take, drop, List·getD-eq-default}
-use lib.Seq.{drop-cons}
 use Rattle.whole.specs.Numbers.{eqZ}
 use Rattle.whole.proofs.Truth.{both, and, by-test}
 use Rattle.whole.proofs.Lists.{next}

@@ -1,5 +1,5 @@
 -- Laws of the running sum: samples in two parts, and what the means of the second part depend on.
-use Prim.Native.Nat.{ℕ, zero, suc, _+_, _-_, _<_, _≤_, min}
+use Prim.Native.Nat.{ℕ, zero, suc, _+_, _-_, _≤_, min}
 use mathlib.Core.Path.{_≡_, refl, sym, ap, ap₂, _∙_}
 use mathlib.Core.List.{List, [], _∷_, _++_}
 use native.Mathlib.Numerals.{add-one}
@@ -15,7 +15,7 @@ use Rattle.word.proofs.Stores.{sets-append}
 use Rattle.command.specs.Sequence.{each}
 use Rattle.settings.specs.Table.{window}
 use Rattle.window.specs.declared.Window.{Window}
-use Rattle.window.specs.Window.{taken, latest, sumOf, meanOf, meanAt}
+use Rattle.window.specs.Window.{taken, sumOf, meanOf, meanAt}
 use Rattle.window.specs.Means.{meansOf, pastOf}
 use Rattle.window.specs.Running.{onto, countedOn, meansAt}
 use Rattle.window.proofs.Taken.{means-long, past-new, sum-turn}

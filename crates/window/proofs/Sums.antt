@@ -17,7 +17,7 @@ use Rattle.whole.proofs.Lin.{Lin, at, lins}
 use Rattle.whole.proofs.Nearest.{nearest-mono, nearest-exact}
 use Rattle.settings.specs.Table.{reach, window}
 use Rattle.window.specs.Window.{sumOf, meanOf}
-use Rattle.window.specs.Bounds.{Bits, sumMost, MeanOk}
+use Rattle.window.specs.Bounds.{Bits, sumMost, MeanOk, sumReach}
 
 -- each element, and the 0 past the end, lies in lo..hi
 abbrev pub Each : ℤ → ℤ → List ℤ → Type 0
@@ -134,7 +134,7 @@ sum-within {sum} {n} k =
     omega (arith, zs)
 
 -- the sum of temperatures in range, so many as the window has places
-pub sum-reach : (n : ℕ) (xs : List ℤ) → n ≤ window → Each (negsuc 999999) (pos reach) xs → Within 128000000 (sumOf (take n xs))
+pub sum-reach : (n : ℕ) (xs : List ℤ) → n ≤ window → Each (negsuc 999999) (pos reach) xs → Within sumReach (sumOf (take n xs))
 sum-reach n xs h e =
     let s = sumOf (take n xs) in
     let S = at s in

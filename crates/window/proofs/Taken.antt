@@ -8,7 +8,7 @@ use native.Mathlib.Omega.{arith}
 use borrow.Author.Tests.{lt-ltb, le-ltb}
 use lib.IntN.{ℤ, pos, _+ℤ_, _-ℤ_}
 use lib.ListN.{length, getD, take, drop, set, length-take, length-append, length-drop}
-use lib.Seq.{sets, sets-eq, take-suc, take-take, take-all, take-at, take-length, drop-at, drop-cons, drop-length}
+use lib.Seq.{sets, sets-eq, take-suc, take-take, take-all, take-at, take-length, drop-at, drop-cons}
 use Rattle.whole.specs.Rounding.{nearest}
 use Rattle.whole.proofs.Parts.{zs}
 use Rattle.whole.proofs.Lin.{Lin, at, lins}
@@ -20,7 +20,7 @@ use Rattle.window.specs.Window.{taken, latest, sumOf, meanOf, meanAt}
 use Rattle.window.specs.Means.{firstBad, afterAll, meansOf, frontFilled, meansInto, pastOf}
 use Rattle.window.specs.declared.means.Summed.{Summed}
 use Rattle.window.specs.Bounds.{Bits, summedOf}
-use Rattle.window.specs.Running.{onto, countedOn, meansAt}
+use Rattle.window.specs.Running.{countedOn, meansAt}
 use Rattle.window.proofs.Sums.{Each, sum-next}
 
 -- ---- the last of those seen

@@ -6,7 +6,7 @@ use lib.ListN.{take, getD}
 use lib.Signed.{_≤ℤ_}
 use mir.Syntax.{w32}
 use mir.Val.{SFits}
-use Rattle.settings.specs.Table.{window}
+use Rattle.settings.specs.Table.{reach, window}
 use Rattle.window.specs.declared.means.Summed.{Summed}
 use Rattle.window.specs.Window.{sumOf}
 
@@ -18,9 +18,13 @@ summedOf n all = record { n = n; sum = sumOf (take n all) }
 abbrev pub Bits : List ℤ → Type 0
 Bits xs = (i : ℕ) → SFits w32 (getD xs i (pos 0))
 
--- a sum of at most 128 numbers of 32 bits
+-- the most of a sum of so many numbers of 32 bits as the window has places, its sign left aside
 abbrev pub sumMost : ℕ
-sumMost = 128 * 2147483648
+sumMost = window * 2147483648
+
+-- and of so many temperatures in range
+abbrev pub sumReach : ℕ
+sumReach = window * reach
 
 -- the sum of n numbers of 32 bits
 pub record MeanOk (sum : ℤ) (n : ℕ) : Type 0 where

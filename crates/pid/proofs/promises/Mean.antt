@@ -1,10 +1,9 @@
 -- 02, request 7, of the plain law. That each command is the definition's is the contract of `obey`; what is said here follows from it.
 use mathlib.Core.Path.{_≡_, refl, sym, ap, ap₂, _∙_}
-use mathlib.Core.List.{List, [], _∷_, _++_}
+use mathlib.Core.List.{List, [], _∷_}
 use mathlib.Core.Bool.{true, false}
 use lib.Dec.{eqb}
-use lib.IntN.{ℤ, pos, negsuc}
-use lib.ListN.{length}
+use lib.IntN.{ℤ, pos}
 use Rattle.whole.specs.Numbers.{plus}
 use Rattle.whole.proofs.Truth.{chosen, push}
 use Rattle.settings.specs.declared.Settings.{Settings}

@@ -6,8 +6,6 @@ use mathlib.Core.Bool.{true, false}
 use mathlib.Core.List.{List, [], _∷_, _++_}
 use lib.IntN.{ℤ, pos, negsuc}
 use lib.ListN.{length, take, replicate}
-use lib.Seq.{take-all}
-use native.Mathlib.Omega.{arith}
 use Rattle.whole.specs.Numbers.{Within}
 use Rattle.settings.specs.Table.{window, inReach}
 use Rattle.command.specs.Sequence.{each}
@@ -15,6 +13,7 @@ use Rattle.window.specs.declared.Window.{Window}
 use Rattle.window.specs.Window.{freshWindow, taken, windowOk, latest, sumOf, meanAt}
 use Rattle.window.specs.Means.{meansOf}
 use Rattle.window.specs.Running.{meansAt}
+use Rattle.window.specs.Bounds.{sumReach}
 use Rattle.window.proofs.Rules.{fresh-ok, taken-ok, mean-in, latest-each}
 use Rattle.window.proofs.Sums.{sum-reach}
 use Rattle.window.proofs.Taken.{counted, means-at}
@@ -36,7 +35,7 @@ taken-keeps = taken-ok
 pub mean-within : (m : ℕ) (w : Window) (pv : ℤ) → windowOk w ≡ true → inReach pv ≡ true → inReach (meanAt m w pv) ≡ true
 mean-within = mean-in
 
-pub sum-fits : (m : ℕ) (w : Window) → windowOk w ≡ true → length (latest m w) ≤ window → Within 128000000 (sumOf (take (length (latest m w)) (latest m w)))
+pub sum-fits : (m : ℕ) (w : Window) → windowOk w ≡ true → length (latest m w) ≤ window → Within sumReach (sumOf (take (length (latest m w)) (latest m w)))
 sum-fits m w e h = sum-reach (length (latest m w)) (latest m w) h (latest-each m w e)
 
 -- a mean over the last one is the temperature itself

@@ -1,9 +1,7 @@
-use mathlib.Core.Path.{_≡_, refl, sym, ap, _∙_}
+use mathlib.Core.Path.{_∙_}
 use native.Mathlib.Omega.{arith}
 use borrow.Author.Needs.{needs}
 use denote.Ref.{now}
-use lib.ListN.{length}
-use Rattle.window.specs.Means.{firstBad}
 use Rattle.window.proofs.Bad.{bad-most}
 use Rattle.window.proofs.Taken.{into-bad, into-short, into-front}
 use Rattle.window.proofs.Window.means.Statement.{statement}

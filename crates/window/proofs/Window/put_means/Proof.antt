@@ -7,8 +7,6 @@ use denote.Ref.{now}
 use lib.IntN.{ℤ, pos, negsuc}
 use lib.ListN.{length, take, drop}
 use lib.Seq.{sets, take-all, length-take-le, length-sets}
-use mir.Syntax.{w64}
-use mir.Val.{toZ, ofZ}
 use Rattle.whole.specs.Numbers.{Within}
 use Rattle.whole.proofs.Parts.{inside-yes}
 use Rattle.whole.proofs.Num.{nums, fits, gives}
@@ -17,7 +15,7 @@ use Rattle.window.specs.declared.Window.{Window}
 use Rattle.window.specs.declared.means.Summed.{Summed}
 use Rattle.window.specs.Window.{sumOf}
 use Rattle.window.specs.Means.{meansOf, frontFilled, pastOf}
-use Rattle.window.specs.Bounds.{Bits}
+use Rattle.window.specs.Bounds.{Bits, sumReach}
 use Rattle.window.specs.Running.{meansAt}
 use Rattle.window.proofs.Fit.{window-fit}
 use Rattle.window.proofs.Sums.{bits-take, sum-reach}
@@ -134,7 +132,7 @@ module _ (r : tie.After-put-first2) where
       ap (λ (x : Summed). x .sum) (r .put-first2 .ensures .0)
       ∙ first-sum (most counted) (n counted) (w (start counted) .places) (pvs (start counted)) (few counted .0) long
 
-  sum-small : Within 128000000 (r .put-first2 .result .sum)
+  sum-small : Within sumReach (r .put-first2 .result .sum)
   sum-small =
       let s = start counted in
       rw sum-is

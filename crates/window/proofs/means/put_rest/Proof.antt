@@ -21,6 +21,7 @@ use Rattle.settings.specs.Table.{reach, window}
 use Rattle.window.specs.Window.{sumOf}
 use Rattle.window.specs.Means.{firstBad, pastOf}
 use Rattle.window.specs.Running.{meansAt}
+use Rattle.window.specs.Bounds.{sumReach}
 use Rattle.window.proofs.Sums.{mean-ok, sum-reach}
 use Rattle.window.proofs.Bad.{good-each, good-bits}
 use Rattle.window.proofs.Taken.{means-turn, past-each, past-bits}
@@ -43,11 +44,11 @@ abbrev μ-loop : tie.MeasureT-loop
 abbrev slid : ℤ → ℤ → ℤ → ℤ
 slid sum new gone = toZ w32 (ofZ w32 (toZ w32 (ofZ w32 (sum +ℤ toZ w32 (ofZ w32 new))) -ℤ toZ w32 (ofZ w32 gone)))
 
-slid-is : (sum new gone : ℤ) → Within 128000000 sum → Within reach new → Within reach gone → slid sum new gone ≡ sum +ℤ new -ℤ gone
+slid-is : (sum new gone : ℤ) → Within sumReach sum → Within reach new → Within reach gone → slid sum new gone ≡ sum +ℤ new -ℤ gone
 slid-is sum new gone h f g = gives (search nums depth 20) tt refl
 
 -- the sum of the last of the samples is small
-past-small : (n i : ℕ) (s : List ℤ) → n ≤ window → firstBad s ≡ length s → Within 128000000 (sumOf (take n (pastOf [] s i)))
+past-small : (n i : ℕ) (s : List ℤ) → n ≤ window → firstBad s ≡ length s → Within sumReach (sumOf (take n (pastOf [] s i)))
 past-small n i s h g =
     sum-reach n (pastOf [] s i) h (past-each _ _ [] s i (λ _. inside-yes (negsuc 999999) (pos reach) (pos 0) refl) (good-each s g))
 
@@ -59,7 +60,7 @@ module _ (c : tie.In-loop Inv-loop μ-loop) where
   abbrev most : ℕ
   most = c .before .before .args .most
 
-  small : Within 128000000 (toZ w32 (c .before .loop .sum))
+  small : Within sumReach (toZ w32 (c .before .loop .sum))
   small = rw (c .before .loop .inv .3) (past-small most (c .before .loop .i) samples (c .before .before .pre .0) (c .before .before .pre .3))
 
   sample-in : (i : ℕ) → Within reach (getD samples i (pos 0))
@@ -79,7 +80,7 @@ module _ (c : tie.In-loop Inv-loop μ-loop) where
       ∙ ap (λ (z : ℤ). z +ℤ getD samples (l .i) (pos 0) -ℤ getD samples (l .i - most) (pos 0)) (l .inv .3)
       ∙ slides most (l .i) samples (l .inv .0)
 
-  next-small : Within 128000000 (sumOf (take most (pastOf [] samples (c .before .loop .i + 1))))
+  next-small : Within sumReach (sumOf (take most (pastOf [] samples (c .before .loop .i + 1))))
   next-small = past-small most (c .before .loop .i + 1) samples (c .before .before .pre .0) (c .before .before .pre .3)
 
   -- as it is handed on
@@ -89,7 +90,7 @@ module _ (c : tie.In-loop Inv-loop μ-loop) where
 
 loop-holds : tie.Need-loop-holds Inv-loop μ-loop
 loop-holds c =
-    let v : Within 128000000 (c .args .start) = rw (c .pre .4) (past-small (c .args .most) (c .args .most) (now (c .args .samples)) (c .pre .0) (c .pre .3)) in
+    let v : Within sumReach (c .args .start) = rw (c .pre .4) (past-small (c .args .most) (c .args .most) (now (c .args .samples)) (c .pre .0) (c .pre .3)) in
     let e : toZ w32 (ofZ w32 (c .args .start)) ≡ c .args .start = gives (search nums depth 12) tt refl in
     (omega arith, c .pre .1, refl, e ∙ c .pre .4, refl)
 

@@ -2,7 +2,7 @@ use mathlib.Core.Path.{_≡_, ap, ap₂, sym, _∙_}
 use mathlib.Core.List.{List}
 use borrow.Author.Needs.{needs}
 use lib.IntN.{ℤ}
-use lib.ListN.{length, take}
+use lib.ListN.{length}
 use Rattle.window.specs.Means.{firstBad, frontFilled}
 use Rattle.pid.specs.declared.record.Loop.{Loop}
 use Rattle.pid.specs.Law.{withMoving, fixedOf, movingOf}

@@ -5,16 +5,13 @@ use lib.IntN.{ℤ}
 use mir.Syntax.{w32}
 use mir.Val.{toZ, ofZ}
 use mir.Facts.{toZ-ofZ}
-use Rattle.whole.specs.Numbers.{plus, Within}
-use Rattle.whole.proofs.Num.{nums, stays}
+use Rattle.whole.specs.Numbers.{Within}
 use Rattle.settings.specs.Table.{reach, inReach}
 use Rattle.window.specs.declared.Window.{Window}
 use Rattle.window.specs.Window.{taken, latest, meanOf, meanAt}
 use Rattle.pid.specs.declared.record.Loop.{Loop}
-use Rattle.pid.specs.declared.sample.Fixed.{Fixed}
-use Rattle.pid.specs.declared.sample.Moving.{Moving}
 use Rattle.pid.specs.Record.{valid}
-use Rattle.pid.specs.Sample.{sensedOf, actedOf, movedOf}
+use Rattle.pid.specs.Sample.{sensedOf, movedOf}
 use Rattle.pid.specs.Bounds.{FixedOk, MovingOk}
 use Rattle.pid.specs.Law.{withMoving, fixedOf, movingOf, readAt, sampleOf}
 use Rattle.pid.proofs.Sound.{holds-of, fixed-ok, moving-ok, read-in}
