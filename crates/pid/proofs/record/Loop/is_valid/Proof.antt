@@ -1,5 +1,6 @@
 use Rattle.pid.specs.Record.{valid}
 use borrow.Author.Needs.{needs}
+use Rattle.settings.proofs.Ranges.{meet}
 use Rattle.pid.proofs.record.Loop.is_valid.Statement.{statement}
 use Rattle.pid.proofs.record.Loop.is_valid.Tie as tie
 
@@ -23,7 +24,16 @@ is-valid-requires c κs = search needs
 
 returns : tie.Need-returns
 unfolding valid
-returns c = cc
+returns c =
+    meet
+    (meet
+    (meet
+    (meet
+    (meet (c .before .before .before .before .before .in-table .ensures) (c .before .before .before .before .is-ordered .ensures))
+    (c .before .before .before .places-ok .ensures))
+    (c .before .before .fine-ok .ensures))
+    (c .before .pending-ok .ensures))
+    (c .is-valid .ensures)
 
 pub is-valid-spec : {M : Type 1} → statement M
 is-valid-spec =
