@@ -72,15 +72,10 @@ fn round(x: i64) -> i64 {
     (x + 32_768 + (x >> 63)) >> 16
 }
 
-/// 2^40 / count, a little too large: by less than what separates a mean from the next rounding step, and so that halves go
-/// away from zero on either side of it.
-fn reciprocal(count: usize) -> i64 {
-    (1 << 40) / count as i64 + 1
-}
-
 /// The sum over the count, to the nearest, halves away from zero.
-fn mean(sum: i32, reciprocal: i64) -> i32 {
-    ((i64::from(sum) * reciprocal + (1 << 39)) >> 40) as i32
+fn mean(sum: i32, count: i32) -> i32 {
+    let half = count / 2;
+    (if sum < 0 { sum - half } else { sum + half }) / count
 }
 
 impl Settings {
@@ -132,7 +127,6 @@ impl Loop {
         }
     }
 
-    #[inline(always)]
     fn sample(&mut self, pv: i32) -> i32 {
         let gains = self.settings.gains[self.set];
         let sign = if self.settings.action == 0 { 1 } else { -1 };
@@ -179,27 +173,6 @@ impl Loop {
         };
     }
 
-    /// Gives the law the mean of the last samples. The first of them drive those of the record out of the sum, of which the
-    /// unfilled places are zero, and every later one drives out the sample that far before it.
-    #[inline(always)]
-    fn sample_means(&mut self, samples: &[i32], out: &mut [i32]) {
-        let most = self.settings.mean;
-        let seen = self.seen;
-        let window = self.window;
-        let mut sum: i32 = window[..most].iter().sum();
-        let first = samples.len().min(most);
-        let (front, back) = out.split_at_mut(first.min(out.len()));
-        for (i, (pv, u)) in samples[..first].iter().zip(front).enumerate() {
-            sum += pv - window[most - 1 - i];
-            *u = self.sample(mean(sum, reciprocal(most.min(seen + i + 1))));
-        }
-        let over = reciprocal(most);
-        for ((pv, left), u) in samples[first..].iter().zip(samples).zip(back) {
-            sum += pv - left;
-            *u = self.sample(mean(sum, over));
-        }
-    }
-
     /// The window holds the last samples, newest first.
     fn keep(&mut self, samples: &[i32]) {
         let taken = samples.len().min(WINDOW);
@@ -210,13 +183,22 @@ impl Loop {
         self.seen = WINDOW.min(self.seen + samples.len());
     }
 
-    /// The place of the first sample out of range is the refusal; nothing is changed then.
+    /// The place of the first sample out of range is the refusal; nothing is changed then. The sum runs: what leaves it is one of
+    /// the record's temperatures, and then one of the samples.
     #[inline(never)]
     pub fn replay(&mut self, samples: &[i32], out: &mut [i32]) -> Result<(), usize> {
         if let Some(place) = samples.iter().position(|pv| !(-1_000_000..=1_000_000).contains(pv)) {
             return Err(place);
         }
-        self.sample_means(samples, out);
+        let most = self.settings.mean;
+        let window = self.window;
+        let mut count = self.seen.min(most);
+        let mut sum: i32 = window[..most].iter().sum();
+        for (i, (pv, u)) in samples.iter().zip(out.iter_mut()).enumerate() {
+            sum += pv - if i < most { window[most - 1 - i] } else { samples[i - most] };
+            count += usize::from(count < most);
+            *u = self.sample(mean(sum, count as i32));
+        }
         self.keep(samples);
         if let Some(pv) = samples.last() {
             self.number += samples.len() as u32;
