@@ -35,6 +35,7 @@ pub record SettingsFit (s : Settings) : Type 0 where
   pub sp : SFits w32 (s .sp)
   pub rate : SFits w32 (s .rate)
   pub mean : SFits w32 (s .mean)
+  pub jump : SFits w32 (s .jump)
   pub sets : length (s .gains) ≡ sets
   pub gains : (k : ℕ) → k < length (s .gains) → GainsFit (gainsAt (s .gains) k)
 
@@ -71,6 +72,7 @@ settings-fit s is =
       sp = record { sfits = o .1 .1 .1 .1 .0 .1 };
       rate = record { sfits = o .1 .1 .1 .1 .1 .0 .1 };
       mean = record { sfits = o .1 .1 .1 .1 .1 .1 .0 .1 };
-      sets = simp length-map at (o .1 .1 .1 .1 .1 .1 .1 .0 .1 .0 .1);
-      gains = one-held (s .gains) _ (o .1 .1 .1 .1 .1 .1 .1 .0 .1 .1);
+      jump = record { sfits = o .1 .1 .1 .1 .1 .1 .1 .0 .1 };
+      sets = simp length-map at (o .1 .1 .1 .1 .1 .1 .1 .1 .0 .1 .0 .1);
+      gains = one-held (s .gains) _ (o .1 .1 .1 .1 .1 .1 .1 .1 .0 .1 .1);
     }

@@ -165,8 +165,13 @@ module _ (h : ℕ) (l : firsts ≤ h) (m : h ≤ heads) where
 -- before any line is read, the values that stand for lines left out are there
 pub unread-completed : (h : ℕ) → firsts ≤ h → h ≤ heads → completed h (picked h unread) ≡ unread
 unread-completed h l m = by-test (eqb h firsts)
-    (λ t. ap (λ (k : ℕ). completed k (picked k unread)) (eqb-true h firsts t))
-    (λ t. let p : h ≡ heads = omega (arith, eqb-false h firsts t) in ap (λ (k : ℕ). completed k (picked k unread)) p)
+    (λ t. at (eqb-true h firsts t))
+    (λ t. by-test (eqb h heads)
+    (λ u. at (eqb-true h heads u))
+    (λ u. let p : h ≡ suc firsts = omega (arith, eqb-false h firsts t, eqb-false h heads u) in at p))
+  where
+    at : {k : ℕ} → h ≡ k → completed h (picked h unread) ≡ completed k (picked k unread)
+    at p = ap (λ (k : ℕ). completed k (picked k unread)) p
 
 -- ---- all values, where those of the lines left out are the ones that stand for them
 

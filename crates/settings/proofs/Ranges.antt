@@ -15,7 +15,7 @@ use Rattle.whole.proofs.Truth.{never, both, and}
 use Rattle.settings.specs.declared.Gains.{Gains}
 use Rattle.settings.specs.declared.Settings.{Settings}
 use Rattle.settings.specs.declared.table.Row.{Row}
-use Rattle.settings.specs.Table.{reach, fastest, window, gain, share, headRows, gainRows, table, sets, heads, keys, linesFor, setRows, each, numbersFrom, rowsOf, rows, noRow, inRow}
+use Rattle.settings.specs.Table.{reach, fastest, window, farthest, gain, share, headRows, gainRows, table, sets, heads, keys, linesFor, setRows, each, numbersFrom, rowsOf, rows, noRow, inRow}
 use Rattle.settings.specs.Settings.{noGains, gainsAt, gainsFrom, setsFrom, gainValues, headValues, valuesOf, settingsOf, filled, allIn, inTable}
 use Rattle.whole.proofs.Lists.{next}
 use Rattle.settings.proofs.Rows.{rows-long, rows-parts}
@@ -142,6 +142,7 @@ pub record SettingsIn (s : Settings) : Type 0 where
   pub sp : inside (negsuc 999999) (pos reach) (s .sp) ≡ true
   pub rate : inside (pos 1) (pos fastest) (s .rate) ≡ true
   pub mean : inside (pos 1) (pos window) (s .mean) ≡ true
+  pub jump : inside (pos 1) (pos farthest) (s .jump) ≡ true
   pub gains : (k : ℕ) → k < sets → GainsIn (gainsAt (s .gains) k)
 
 -- of any gain set, however many there are
@@ -171,5 +172,6 @@ settings-in s e =
       sp = at 4 (lit< tt);
       rate = at 5 (lit< tt);
       mean = at 6 (lit< tt);
+      jump = at 7 (lit< tt);
       gains = sets-in (s .gains) (numbersFrom 0 sets) (all-from heads rows (valuesOf s) e);
     }

@@ -103,8 +103,8 @@ sets-next i (suc n) vs =
     rw e (ap (λ (gs : List Gains). gainsFrom i vs ∷ gs) (sets-next (i + keys) n vs))
 
 -- settings put together from values that the machine holds
-pub settings-back : {a b c d e f h : ℤ} {g g′ : List Gains} →
-    SFits w32 a → SFits w32 b → SFits w32 c → SFits w32 d → SFits w32 e → SFits w32 f → SFits w32 h → g ≡ g′ →
+pub settings-back : {a b c d e f h i : ℤ} {g g′ : List Gains} →
+    SFits w32 a → SFits w32 b → SFits w32 c → SFits w32 d → SFits w32 e → SFits w32 f → SFits w32 h → SFits w32 i → g ≡ g′ →
     _≡_ {A = Settings}
     (record {
       action = toZ w32 (ofZ w32 a);
@@ -114,7 +114,8 @@ pub settings-back : {a b c d e f h : ℤ} {g g′ : List Gains} →
       sp = toZ w32 (ofZ w32 e);
       rate = toZ w32 (ofZ w32 f);
       mean = toZ w32 (ofZ w32 h);
+      jump = toZ w32 (ofZ w32 i);
       gains = g;
     })
-    (record { action = a; lo = b; hi = c; out = d; sp = e; rate = f; mean = h; gains = g′ })
-settings-back a b c d e f h p = simp (toZ-ofZ a, toZ-ofZ b, toZ-ofZ c, toZ-ofZ d, toZ-ofZ e, toZ-ofZ f, toZ-ofZ h, p)
+    (record { action = a; lo = b; hi = c; out = d; sp = e; rate = f; mean = h; jump = i; gains = g′ })
+settings-back a b c d e f h i p = simp (toZ-ofZ a, toZ-ofZ b, toZ-ofZ c, toZ-ofZ d, toZ-ofZ e, toZ-ofZ f, toZ-ofZ h, toZ-ofZ i, p)

@@ -54,14 +54,14 @@ sets-back hs (g ∷ gs) =
 
 pub settings-values : (s : Settings) → length (s .gains) ≡ sets → settingsOf (valuesOf s) ≡ s
 settings-values s e =
-    ap (λ (g : List Gains). record { action = s .action; lo = s .lo; hi = s .hi; out = s .out; sp = s .sp; rate = s .rate; mean = s .mean; gains = g })
+    ap (λ (g : List Gains). record { action = s .action; lo = s .lo; hi = s .hi; out = s .out; sp = s .sp; rate = s .rate; mean = s .mean; jump = s .jump; gains = g })
     (ap (λ (n : ℕ). setsFrom heads n (valuesOf s)) (sym e) ∙ sets-back (headValues s) (s .gains))
 
 -- ---- settings filled with set 0
 
 -- settings whose gain sets alone are others
 pub filled-is : (n : ℕ) (s : Settings) {gs : List Gains} → gs ≡ filled n s .gains →
-    _≡_ {A = Settings} (record { action = s .action; lo = s .lo; hi = s .hi; out = s .out; sp = s .sp; rate = s .rate; mean = s .mean; gains = gs }) (filled n s)
+    _≡_ {A = Settings} (record { action = s .action; lo = s .lo; hi = s .hi; out = s .out; sp = s .sp; rate = s .rate; mean = s .mean; jump = s .jump; gains = gs }) (filled n s)
 filled-is n s e = rw e
 
 -- no set is left to fill
@@ -124,4 +124,4 @@ filled-first n vs l h =
     let at : (j : ℕ) → j < heads → getD ws j (pos 0) ≡ getD vs j (pos 0) = λ j k. getD-take (linesFor heads n) vs j (pos 0) (omega arith) in
     let t = take-sets n sets heads ws h ∙ sets-first n heads (linesFor heads n) vs (omega arith) ∙ sym (take-sets n sets heads vs h) in
     let g = gains-first heads (linesFor heads n) vs (omega arith) in
-    rw (t, g, at 0 (omega arith), at 1 (omega arith), at 2 (omega arith), at 3 (omega arith), at 4 (omega arith), at 5 (omega arith), at 6 (omega arith))
+    rw (t, g, at 0 (omega arith), at 1 (omega arith), at 2 (omega arith), at 3 (omega arith), at 4 (omega arith), at 5 (omega arith), at 6 (omega arith), at 7 (omega arith))

@@ -1,4 +1,4 @@
--- 01, "Units" and "Settings text", with 02's requests 5 and 7: the settings as values in the order of the rows, and what is wrong with them.
+-- 01, "Units" and "Settings text", with 02's requests 5, 7 and 8: the settings as values in the order of the rows, and what is wrong with them.
 use Prim.Native.Nat.{ℕ, zero, suc, _+_, _-_}
 use mathlib.Core.Bool.{Bool, true, false, cond, _&&_}
 use mathlib.Core.List.{List, [], _∷_, _++_}
@@ -9,7 +9,7 @@ use Rattle.whole.specs.Numbers.{inside}
 use Rattle.settings.specs.declared.table.Row.{Row}
 use Rattle.settings.specs.declared.Gains.{Gains}
 use Rattle.settings.specs.declared.Settings.{Settings}
-use Rattle.settings.specs.Table.{sets, firsts, heads, keys, linesFor, lines, each, rows, inRow}
+use Rattle.settings.specs.Table.{farthest, sets, firsts, heads, keys, linesFor, lines, each, rows, inRow}
 
 -- ---- the values in the order of the rows
 
@@ -19,7 +19,7 @@ gainValues g = g .kp ∷ g .ki ∷ g .kd ∷ g .alpha ∷ g .kt ∷ []
 
 -- those before the gain sets'
 abbrev pub headValues : Settings → List ℤ
-headValues s = s .action ∷ s .lo ∷ s .hi ∷ s .out ∷ s .sp ∷ s .rate ∷ s .mean ∷ []
+headValues s = s .action ∷ s .lo ∷ s .hi ∷ s .out ∷ s .sp ∷ s .rate ∷ s .mean ∷ s .jump ∷ []
 
 abbrev pub valuesOf : Settings → List ℤ
 valuesOf s = headValues s ++ each gainValues (s .gains)
@@ -57,6 +57,7 @@ settingsOf vs = record {
   sp = getD vs 4 (pos 0);
   rate = getD vs 5 (pos 0);
   mean = getD vs 6 (pos 0);
+  jump = getD vs 7 (pos 0);
   gains = setsFrom heads sets vs;
 }
 
@@ -70,12 +71,13 @@ filled n s = record {
   sp = s .sp;
   rate = s .rate;
   mean = s .mean;
+  jump = s .jump;
   gains = take n (s .gains) ++ replicate (sets - n) (gainsAt (s .gains) 0);
 }
 
--- the values of the rows that a text may leave out, where it does: it "is read as mean 1"
+-- the values of the rows that a text may leave out, where it does: it "is read as mean 1", "and one without jump means 2,000,000"
 abbrev pub absent : List ℤ
-absent = pos 1 ∷ []
+absent = pos 1 ∷ pos farthest ∷ []
 
 -- the values of all rows, from those of the rows that have a line, of which h stand before the gain sets
 abbrev pub completed : ℕ → List ℤ → List ℤ

@@ -1,11 +1,11 @@
 -- 01, "Settings text": "Settings C, whole". Its text ends after 26 lines, so by 02's request 5 it has "sets 4 to 15 equal to
--- set 0".
+-- set 0"; it has neither mean nor jump, so by requests 7 and 8 these are 1 and 2,000,000.
 use Prim.Native.Nat.{ℕ}
 use mathlib.Core.List.{[], _∷_}
 use lib.IntN.{pos}
 use Rattle.settings.specs.declared.Gains.{Gains}
 use Rattle.settings.specs.declared.Settings.{Settings}
-use Rattle.settings.specs.Table.{shortSets}
+use Rattle.settings.specs.Table.{farthest, shortSets}
 use Rattle.settings.specs.Settings.{filled}
 
 abbrev pub gainSet : ℕ → ℕ → ℕ → ℕ → ℕ → Gains
@@ -20,6 +20,7 @@ settingsC = filled shortSets (record {
   sp = pos 500;
   rate = pos 50;
   mean = pos 1;
+  jump = pos farthest;
   gains =
       gainSet 65536 16384 0 65536 0
       ∷ gainSet 131072 16384 65536 32768 0

@@ -1,4 +1,4 @@
--- 01, "Units" and "Settings text", with 02's requests 5 and 7: the settings' keys, their order and their ranges.
+-- 01, "Units" and "Settings text", with 02's requests 5, 7 and 8: the settings' keys, their order and their ranges.
 use Prim.Native.Nat.{ℕ, zero, suc, _+_, _-_, _*_}
 use Prim.Native.String.{String}
 use mathlib.Core.Bool.{Bool, cond}
@@ -37,6 +37,10 @@ share = 65536
 abbrev pub window : ℕ
 window = 128
 
+-- a jump is at most 2,000,000: so far apart two temperatures can be
+abbrev pub farthest : ℕ
+farthest = 2000000
+
 -- ---- the table
 
 -- a key with its `=` has at most eight bytes
@@ -67,9 +71,9 @@ firstRows =
     ∷ row "rate=" (pos 1) (pos fastest)
     ∷ []
 
--- "One settings line, mean, follows rate": those that a text may leave out
+-- "One settings line, mean, follows rate", and jump is "a settings line after mean": those that a text may leave out
 abbrev pub laterRows : List Row
-laterRows = row "mean=" (pos 1) (pos window) ∷ []
+laterRows = row "mean=" (pos 1) (pos window) ∷ row "jump=" (pos 1) (pos farthest) ∷ []
 
 abbrev pub headRows : List Row
 headRows = firstRows ++ laterRows
@@ -112,7 +116,7 @@ keys = length gainRows
 abbrev pub linesFor : ℕ → ℕ → ℕ
 linesFor h n = h + keys * n
 
--- "the text has 86 lines", and with the mean one more
+-- "the text has 86 lines", and with mean and jump two more
 abbrev pub lines : ℕ
 lines = linesFor heads sets
 
@@ -139,7 +143,7 @@ abbrev pub numbersFrom : ℕ → ℕ → List ℕ
 numbersFrom k zero = []
 numbersFrom k (suc n) = k ∷ numbersFrom (k + 1) n
 
--- "action, lo, hi, out, sp, rate", mean, "then kp0 ki0 kd0 alpha0 kt0, then the same for sets 1, 2 and 3", and on: with n gain sets
+-- "action, lo, hi, out, sp, rate", mean, jump, "then kp0 ki0 kd0 alpha0 kt0, then the same for sets 1, 2 and 3", and on: with n gain sets
 unfoldable pub rowsOf : ℕ → List Row
 rowsOf n = headRows ++ each setRows (numbersFrom 0 n)
 

@@ -25,6 +25,7 @@ pub struct Settings {
     pub sp: i32,
     pub rate: i32,
     pub mean: i32,
+    pub jump: i32,
     pub gains: [Gains; Settings::SETS],
 }
 
@@ -44,14 +45,17 @@ impl Settings {
     // "m from 1 to 128, kept in a window of 128 places"
     pub const WINDOW: usize = 128;
 
+    // The most of a jump: so far apart two temperatures can be.
+    pub const FARTHEST: i32 = 2_000_000;
+
     // "Raise four to sixteen": gain sets 0 to 15.
     pub const SETS: usize = 16;
 
     // How many keys every text has before those of the gain sets: action, lo, hi, out, sp, rate.
     pub const FIRST: usize = 6;
 
-    // How many stand before those of the gain sets, with mean.
-    pub const HEAD: usize = Settings::FIRST + 1;
+    // How many stand before those of the gain sets, with mean and jump.
+    pub const HEAD: usize = Settings::FIRST + 2;
 
     // How many stand in each gain set: kp, ki, kd, alpha, kt.
     pub const KEYS: usize = 5;
@@ -111,6 +115,7 @@ impl Settings {
             self.sp,
             self.rate,
             self.mean,
+            self.jump,
         ];
         all[i]
     }
@@ -156,16 +161,19 @@ impl Settings {
             sp: values[4],
             rate: values[5],
             mean: values[6],
+            jump: values[7],
             gains,
         }
     }
 
-    // Values before any line of a text is read: a text without the line mean "is read as mean 1".
+    // Values before any line of a text is read: one without the line mean "is read as mean 1", "and one without jump means
+    // 2,000,000".
     pub fn unread() -> [i32; Settings::LINES]
         ensures { λ r. ⌜ r ≡ unread ⌝ }
     {
         let mut values = [0i32; Settings::LINES];
         values[Settings::FIRST] = 1;
+        values[Settings::FIRST + 1] = Settings::FARTHEST;
         values
     }
 

@@ -22,6 +22,7 @@ const ROWS: [Row; Settings::HEAD + Settings::KEYS] = [
     Row(*b"sp=\0\0\0\0\0", 3, -Settings::REACH, Settings::REACH),
     Row(*b"rate=\0\0\0", 5, 1, Settings::FASTEST),
     Row(*b"mean=\0\0\0", 5, 1, Settings::WINDOW as i32),
+    Row(*b"jump=\0\0\0", 5, 1, Settings::FARTHEST),
     Row(*b"kp\0\0\0\0\0\0", 2, 0, Settings::GAIN),
     Row(*b"ki\0\0\0\0\0\0", 2, 0, Settings::GAIN),
     Row(*b"kd\0\0\0\0\0\0", 2, 0, Settings::GAIN),
@@ -106,7 +107,8 @@ impl Settings {
                 & (Row::takes(2, self.hi)
                     & (Row::takes(3, self.out)
                         & (Row::takes(4, self.sp)
-                            & (Row::takes(5, self.rate) & Row::takes(6, self.mean))))))
+                            & (Row::takes(5, self.rate)
+                                & (Row::takes(6, self.mean) & Row::takes(7, self.jump)))))))
     }
 
     // Whether each value lies within its own range.

@@ -19,7 +19,7 @@ returns : tie.Need-returns
 returns c =
     let a = c .before .before in
     let f = settings-fit (a .args .self) (a .good .0) in
-    toZ-ofZ (search needs) ∙ ap (λ (vs : List ℤ). getD vs (a .args .i) (pos 0)) (cons-back (f .action) (cons-back (f .lo) (cons-back (f .hi) (cons-back (f .out) (cons-back (f .sp) (cons-back (f .rate) (cons-back {vs = []} (f .mean) refl)))))))
+    toZ-ofZ (search needs) ∙ ap (λ (vs : List ℤ). getD vs (a .args .i) (pos 0)) (cons-back (f .action) (cons-back (f .lo) (cons-back (f .hi) (cons-back (f .out) (cons-back (f .sp) (cons-back (f .rate) (cons-back (f .mean) (cons-back {vs = []} (f .jump) refl))))))))
 
 pub head-spec : {M : Type 1} → statement M
 head-spec = tie.close (tie.spec mul-result array-copy-out-result returns)

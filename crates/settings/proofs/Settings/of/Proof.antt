@@ -28,6 +28,9 @@ array-copy-out-t22 c = omega arith
 array-copy-out-t25 : tie.Need-array-copy-out-t25
 array-copy-out-t25 c = omega arith
 
+array-copy-out-t28 : tie.Need-array-copy-out-t28
+array-copy-out-t28 c = omega arith
+
 returns : tie.Need-returns
 returns c =
     settings-back
@@ -38,7 +41,8 @@ returns c =
     (search needs)
     (search needs)
     (search needs)
-    (c .before .before .before .before .before .before .before .sets-of .ensures)
+    (search needs)
+    (c .before .before .before .before .before .before .before .before .sets-of .ensures)
 
 pub of-spec : {M : Type 1} → statement M
 of-spec =
@@ -52,4 +56,5 @@ of-spec =
     array-copy-out-t19
     array-copy-out-t22
     array-copy-out-t25
+    array-copy-out-t28
     returns)
