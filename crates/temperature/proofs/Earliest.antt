@@ -1,0 +1,55 @@
+-- The earliest bad sample of a list.
+use Prim.Native.Nat.{ℕ, zero, suc, _+_, _<_, _≤_}
+use mathlib.Core.Path.{_≡_, refl, sym, ap, _∙_}
+use mathlib.Core.Bool.{Bool, true, false, cond}
+use mathlib.Core.List.{List, [], _∷_}
+use native.Mathlib.Numerals.{add-one}
+use native.Mathlib.Omega.{arith}
+use borrow.Author.Tests.{eqb-true, eqb-false, eq-eqb, ne-eqb}
+use lib.Dec.{eqb}
+use lib.IntN.{ℤ, pos}
+use lib.ListN.{length, drop, getD, take}
+use lib.Seq.{drop-cons, drop-length}
+use Rattle.whole.proofs.Truth.{by-test}
+use Rattle.temperature.specs.declared.Guard.{Guard}
+use Rattle.temperature.specs.declared.Bad.{Bad}
+use Rattle.temperature.specs.Temperature.{codeOf, past, firstBad, firstCode}
+
+pub bad-is : {c d p q : ℕ} → c ≡ d → p ≡ q → _≡_ {A = Bad} (record { code = c; place = p }) (record { code = d; place = q })
+bad-is e f = rw (e, f)
+
+-- a sample that is taken, and one that is not
+pub bad-on : (g : Guard) (pv : ℤ) (pvs : List ℤ) → codeOf g pv ≡ 0 →
+    (firstBad g (pv ∷ pvs) ≡ suc (firstBad (past g pv) pvs)) × (firstCode g (pv ∷ pvs) ≡ firstCode (past g pv) pvs)
+unfolding firstBad firstCode
+bad-on g pv pvs e = (rw (eq-eqb _ 0 e), rw (eq-eqb _ 0 e))
+
+pub bad-first : (g : Guard) (pv : ℤ) (pvs : List ℤ) → (codeOf g pv ≡ 0 → ⊥) →
+    (firstBad g (pv ∷ pvs) ≡ 0) × (firstCode g (pv ∷ pvs) ≡ codeOf g pv)
+unfolding firstBad firstCode
+bad-first g pv pvs e = (rw (ne-eqb _ 0 e), rw (ne-eqb _ 0 e))
+
+pub bad-most : (g : Guard) (pvs : List ℤ) → firstBad g pvs ≤ length pvs
+unfolding firstBad
+bad-most g [] = omega arith
+bad-most g (pv ∷ pvs) = go (eqb (codeOf g pv) 0) (bad-most (past g pv) pvs)
+  where
+    go : (b : Bool) → firstBad (past g pv) pvs ≤ length pvs → cond b (suc (firstBad (past g pv) pvs)) 0 ≤ suc (length pvs)
+    go true h = omega arith
+    go false h = omega arith
+
+-- one turn of the loop over the samples, of which i are taken
+module _ (g : Guard) (pvs : List ℤ) (i : ℕ) (more : i < length pvs) where
+  abbrev here : ℤ
+  here = getD pvs i (pos 0)
+
+  pub taken-here : codeOf g here ≡ 0 →
+      (firstBad g (drop i pvs) ≡ suc (firstBad (past g here) (drop (i + 1) pvs))) × (firstCode g (drop i pvs) ≡ firstCode (past g here) (drop (i + 1) pvs))
+  taken-here e = rw (add-one i, drop-cons pvs i (pos 0) more) (bad-on g here (drop (suc i) pvs) e)
+
+  pub bad-here : (codeOf g here ≡ 0 → ⊥) → (firstBad g (drop i pvs) ≡ 0) × (firstCode g (drop i pvs) ≡ codeOf g here)
+  bad-here e = rw (drop-cons pvs i (pos 0) more) (bad-first g here (drop (suc i) pvs) e)
+
+pub none-left : (g : Guard) (pvs : List ℤ) (i : ℕ) → i ≡ length pvs → (firstBad g (drop i pvs) ≡ 0) × (firstCode g (drop i pvs) ≡ 0)
+unfolding firstBad firstCode
+none-left g pvs i e = (rw (e, drop-length pvs), rw (e, drop-length pvs))

@@ -1,0 +1,4 @@
+mod Fit
+pub mod Apart
+pub mod Earliest
+pub mod Ranged
