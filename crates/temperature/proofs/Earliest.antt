@@ -1,6 +1,6 @@
 -- The earliest bad sample of a list.
-use Prim.Native.Nat.{ℕ, zero, suc, _+_, _<_, _≤_}
-use mathlib.Core.Path.{_≡_, refl, sym, ap, _∙_}
+use Prim.Native.Nat.{ℕ, suc, _+_, _<_, _≤_}
+use mathlib.Core.Path.{_≡_, sym, _∙_}
 use mathlib.Core.Bool.{Bool, true, false, cond}
 use mathlib.Core.List.{List, [], _∷_}
 use native.Mathlib.Numerals.{add-one}
@@ -8,7 +8,7 @@ use native.Mathlib.Omega.{arith}
 use borrow.Author.Tests.{eqb-true, eqb-false, eq-eqb, ne-eqb}
 use lib.Dec.{eqb}
 use lib.IntN.{ℤ, pos}
-use lib.ListN.{length, drop, getD, take}
+use lib.ListN.{length, drop, getD}
 use lib.Seq.{drop-cons, drop-length}
 use Rattle.whole.proofs.Truth.{by-test}
 use Rattle.temperature.specs.declared.Guard.{Guard}
@@ -37,6 +37,13 @@ bad-most g (pv ∷ pvs) = go (eqb (codeOf g pv) 0) (bad-most (past g pv) pvs)
     go : (b : Bool) → firstBad (past g pv) pvs ≤ length pvs → cond b (suc (firstBad (past g pv) pvs)) 0 ≤ suc (length pvs)
     go true h = omega arith
     go false h = omega arith
+
+-- where none is bad the first is taken, and none of the others is
+pub code-none : (g : Guard) (pv : ℤ) (pvs : List ℤ) → firstCode g (pv ∷ pvs) ≡ 0 → (codeOf g pv ≡ 0) × (firstCode (past g pv) pvs ≡ 0)
+code-none g pv pvs e =
+    by-test (eqb (codeOf g pv) 0)
+    (λ t. let z = eqb-true (codeOf g pv) 0 t in (z, sym (bad-on g pv pvs z .1) ∙ e))
+    (λ t. let n = eqb-false (codeOf g pv) 0 t in absurd (n (sym (bad-first g pv pvs n .1) ∙ e)))
 
 -- one turn of the loop over the samples, of which i are taken
 module _ (g : Guard) (pvs : List ℤ) (i : ℕ) (more : i < length pvs) where

@@ -4,14 +4,35 @@ use mathlib.Core.Path.{_≡_, refl, sym, ap, _∙_}
 use mathlib.Core.Bool.{true}
 use mathlib.Core.List.{List, [], _∷_}
 use native.Mathlib.Omega.{arith}
-use lib.IntN.{ℤ, pos, negsuc}
-use lib.ListN.{length, getD}
+use lib.IntN.{ℤ, pos}
+use lib.ListN.{length, drop, getD}
 use Rattle.whole.proofs.Truth.{both, and, zero-if}
+use Rattle.whole.proofs.Lists.{next}
 use Rattle.settings.specs.Table.{inReach}
 use Rattle.temperature.specs.declared.Guard.{Guard}
-use Rattle.temperature.specs.Temperature.{codeOf, past, firstBad, firstCode, ranged, rawAfter}
+use Rattle.temperature.specs.Temperature.{codeOf, past, firstCode, ranged, rawAfter}
+use Rattle.temperature.proofs.Earliest.{code-none}
 
--- ---- the last of them
+-- a list of them: its first, and what is left at a place
+pub ranged-first : (pv : ℤ) (pvs : List ℤ) → ranged (pv ∷ pvs) ≡ true → (inReach pv ≡ true) × (ranged pvs ≡ true)
+ranged-first pv pvs e = both (inReach pv) (ranged pvs) e
+
+pub ranged-on : (pvs : List ℤ) (i : ℕ) → i < length pvs → ranged (drop i pvs) ≡ true →
+    (inReach (getD pvs i (pos 0)) ≡ true) × (ranged (drop (i + 1) pvs) ≡ true)
+ranged-on pvs i more e = ranged-first (getD pvs i (pos 0)) (drop (i + 1) pvs) (rw (next pvs i (pos 0) more) at e)
+
+-- a sample that is taken is one of them
+pub taken-reach : (g : Guard) (pv : ℤ) → codeOf g pv ≡ 0 → inReach pv ≡ true
+unfolding codeOf
+taken-reach g pv e = zero-if (inReach pv) _ 3 e .0
+
+pub all-ranged : (g : Guard) (pvs : List ℤ) → firstCode g pvs ≡ 0 → ranged pvs ≡ true
+all-ranged g [] e = refl
+all-ranged g (pv ∷ pvs) e =
+    let c = code-none g pv pvs e in
+    and (taken-reach g pv (c .0)) (all-ranged (past g pv) pvs (c .1))
+
+-- ---- the last of some samples
 
 pub raw-none : (raw : ℤ) (pvs : List ℤ) → length pvs ≡ 0 → rawAfter raw pvs ≡ raw
 unfolding rawAfter

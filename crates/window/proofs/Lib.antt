@@ -1,6 +1,6 @@
 mod Fit
 pub mod Sums
-pub mod Bad
+pub mod Ranged
 pub mod Rules
 pub mod Taken
 pub mod Runs

@@ -5,7 +5,7 @@ use mathlib.Core.List.{List, [], _∷_, _++_}
 use native.Mathlib.Nat.{zero-add}
 use native.Mathlib.Numerals.{add-one}
 use native.Mathlib.Omega.{arith}
-use borrow.Author.Tests.{lt-ltb, le-ltb}
+use borrow.Author.Tests.{lt-ltb, le-ltb, eq-eqb, ne-eqb}
 use lib.IntN.{ℤ, pos, _+ℤ_, _-ℤ_}
 use lib.ListN.{length, getD, take, drop, set, length-take, length-append, length-drop}
 use lib.Seq.{sets, sets-eq, take-suc, take-take, take-all, take-at, take-length, drop-at, drop-cons}
@@ -15,9 +15,11 @@ use Rattle.whole.proofs.Lin.{Lin, at, lins}
 use Rattle.command.specs.Sequence.{after, each}
 use Rattle.command.proofs.Sequences.{after-snoc}
 use Rattle.settings.specs.Table.{window}
+use Rattle.temperature.specs.declared.Guard.{Guard}
+use Rattle.temperature.specs.Temperature.{firstCode}
 use Rattle.window.specs.declared.Window.{Window}
 use Rattle.window.specs.Window.{taken, latest, sumOf, meanOf, meanAt}
-use Rattle.window.specs.Means.{firstBad, afterAll, meansOf, frontFilled, meansInto, pastOf}
+use Rattle.window.specs.Means.{afterAll, meansOf, frontFilled, meansInto, pastOf}
 use Rattle.window.specs.declared.means.Summed.{Summed}
 use Rattle.window.specs.Bounds.{Bits, summedOf}
 use Rattle.window.specs.Running.{countedOn, meansAt}
@@ -197,19 +199,19 @@ pub counted-turn : (most n i : ℕ) (s : List ℤ) → i < length s → countedO
 counted-turn most n i s more = rw (add-one i, drop-cons s i (pos 0) more)
 
 -- what becomes of the list
-module _ (m : ℕ) (w : Window) (s out : List ℤ) where
-  pub into-bad : firstBad s < length s → out ≡ meansInto m w s out
+module _ (m : ℕ) (w : Window) (g : Guard) (s out : List ℤ) where
+  pub into-bad : (firstCode g s ≡ 0 → ⊥) → out ≡ meansInto m w g s out
   unfolding meansInto
-  into-bad h = rw (lt-ltb (firstBad s) (length s) h)
+  into-bad h = rw (ne-eqb (firstCode g s) 0 h)
 
-  module _ (good : length s ≤ firstBad s) where
-    pub into-short : length out < length s → out ≡ meansInto m w s out
+  module _ (good : firstCode g s ≡ 0) where
+    pub into-short : length out < length s → out ≡ meansInto m w g s out
     unfolding meansInto
-    into-short h = rw (le-ltb (firstBad s) (length s) good, lt-ltb (length out) (length s) h)
+    into-short h = rw (eq-eqb (firstCode g s) 0 good, lt-ltb (length out) (length s) h)
 
-    pub into-front : length s ≤ length out → frontFilled (meansOf m w s) out ≡ meansInto m w s out
+    pub into-front : length s ≤ length out → frontFilled (meansOf m w s) out ≡ meansInto m w g s out
     unfolding meansInto
-    into-front h = rw (le-ltb (firstBad s) (length s) good, le-ltb (length out) (length s) h)
+    into-front h = rw (eq-eqb (firstCode g s) 0 good, le-ltb (length out) (length s) h)
 
 -- ---- the window after all of them
 

@@ -1,12 +1,14 @@
 // A list of samples taken one after the other: the mean after each, and the window after all.
 ghost use mathlib.Core.Path.{_≡_};
+ghost use mathlib.Core.Bool.{true};
 ghost use mathlib.Core.List.{[]};
 ghost use Prim.Native.Nat.{_+_, _<_, _≤_, min};
 ghost use lib.ListN.{length, getD, take, drop};
 ghost use lib.Seq.{sets};
 ghost use lib.IntN.{pos};
 ghost use Rattle.settings.specs.Table.{window};
-ghost use Rattle.window.specs.Means.{firstBad, pastOf, afterAll, meansOf, frontFilled, meansInto};
+ghost use Rattle.temperature.specs.Temperature.{ranged, badOf};
+ghost use Rattle.window.specs.Means.{pastOf, afterAll, meansOf, frontFilled, meansInto};
 ghost use Rattle.window.specs.Bounds.{Bits, summedOf};
 ghost use Rattle.window.specs.Running.{onto, countedOn, meansAt};
 ghost use Rattle.window.specs.Window.{sumOf};
@@ -15,20 +17,8 @@ use crate::lesser;
 use crate::mean_of;
 use crate::sum_of;
 use settings::Settings;
-
-// The place of the first bad sample, or the length.
-fn bad_at(samples: &[i32]) -> usize
-    ensures { λ r. ⌜ r ≡ firstBad (now (samples .entry)) ⌝ }
-{
-    let mut i: usize = 0;
-    while i < samples.len() {
-        if !whole::lies_in(-Settings::REACH, Settings::REACH, samples[i]) {
-            return i;
-        }
-        i += 1;
-    }
-    i
-}
+use temperature::Bad;
+use temperature::Guard;
 
 // The newest temperatures that a mean goes over: how many there are, and their sum.
 pub struct Summed {
@@ -98,7 +88,7 @@ fn put_first(
 // The mean after each of the others. What leaves the sum is read from the samples themselves; they lie in range, so that the sum
 // fits 32 bits, and the division is one of 32.
 fn put_rest(start: i32, most: usize, samples: &[i32], out: &mut [i32])
-    requires { ⌜ (most ≤ window) × (most ≤ length (now samples)) × (length (now samples) ≤ length (now out)) × (firstBad (now samples) ≡ length (now samples)) × (start ≡ sumOf (take most (pastOf [] (now samples) most))) ⌝ }
+    requires { ⌜ (most ≤ window) × (most ≤ length (now samples)) × (length (now samples) ≤ length (now out)) × (ranged (now samples) ≡ true) × (start ≡ sumOf (take most (pastOf [] (now samples) most))) ⌝ }
     ensures { λ _. ⌜ now (out .exit) ≡ sets (now (out .entry)) most (meansAt most most (pastOf [] (now (samples .entry)) most) (drop most (now (samples .entry)))) ⌝ }
 {
     let mut sum = start;
@@ -127,7 +117,7 @@ fn put_samples(samples: &[i32], out: &mut [i32])
 impl Window {
     // The sum is kept in a local, and no window goes through the loop.
     fn put_means(self, m: usize, samples: &[i32], out: &mut [i32])
-        requires { ⌜ (firstBad (now samples) ≡ length (now samples)) × (length (now samples) ≤ length (now out)) ⌝ }
+        requires { ⌜ (ranged (now samples) ≡ true) × (length (now samples) ≤ length (now out)) ⌝ }
         ensures { λ _. ⌜ now (out .exit) ≡ frontFilled (meansOf m self (now (samples .entry))) (now (out .entry)) ⌝ }
     {
         if m == 1 {
@@ -145,21 +135,22 @@ impl Window {
         put_rest(s.sum as i32, most, samples, out);
     }
 
-    // "Code 4 tests the raw one": the place of the first bad sample, or the length. Where none is bad, the mean after each is put in
-    // the front of a list that has room for them.
-    pub fn means(self, m: usize, samples: &[i32], out: &mut [i32]) -> usize
-        ensures { λ r. ⌜ r ≡ firstBad (now (samples .entry)) ⌝ }
-        ensures { λ _. ⌜ now (out .exit) ≡ meansInto m self (now (samples .entry)) (now (out .entry)) ⌝ }
+    // Codes 4 and 19 test the raw ones: the earliest bad sample. Where none is bad, the mean after each is put in the front of a
+    // list that has room for them.
+    pub fn means(self, m: usize, guard: Guard, samples: &[i32], out: &mut [i32]) -> Bad
+        ensures { λ r. ⌜ r ≡ badOf guard (now (samples .entry)) ⌝ }
+        ensures { λ _. ⌜ now (out .exit) ≡ meansInto m self guard (now (samples .entry)) (now (out .entry)) ⌝ }
     {
-        let place = bad_at(samples);
-        if place < samples.len() {
-            return place;
+        let bad = guard.first_bad(samples);
+        let code = bad.code;
+        if code != 0 {
+            return bad;
         }
         if out.len() < samples.len() {
-            return place;
+            return bad;
         }
         self.put_means(m, samples, out);
-        place
+        bad
     }
 
     // The window after every sample, each place filled once.

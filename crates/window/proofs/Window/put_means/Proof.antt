@@ -19,7 +19,7 @@ use Rattle.window.specs.Bounds.{Bits, sumReach}
 use Rattle.window.specs.Running.{meansAt}
 use Rattle.window.proofs.Fit.{window-fit}
 use Rattle.window.proofs.Sums.{bits-take, sum-reach}
-use Rattle.window.proofs.Bad.{good-each, good-bits}
+use Rattle.window.proofs.Ranged.{ranged-each, ranged-bits}
 use Rattle.window.proofs.Taken.{means-at, means-length, sets-front, past-each}
 use Rattle.window.proofs.Runs.{means-one, first-sum, both-parts}
 use Rattle.window.proofs.Window.put_means.Statement.{statement}
@@ -41,7 +41,7 @@ module _ (s : tie.Start) where
   places-bits = window-fit w (s .good .0) .bits
 
   samples-bits : Bits pvs
-  samples-bits = good-bits pvs (s .pre .0)
+  samples-bits = ranged-bits pvs (s .pre .0)
 
 -- ---- how many are counted, and at most
 
@@ -137,7 +137,7 @@ module _ (r : tie.After-put-first2) where
       let s = start counted in
       rw sum-is
       (sum-reach (most counted) _ (few counted .1)
-      (past-each _ _ [] (pvs s) (most counted) (λ _. inside-yes (negsuc 999999) (pos reach) (pos 0) refl) (good-each (pvs s) (s .pre .0))))
+      (past-each _ _ [] (pvs s) (most counted) (λ _. inside-yes (negsuc 999999) (pos reach) (pos 0) refl) (ranged-each (pvs s) (s .pre .0))))
 
 cast-put-rest : tie.Need-cast-put-rest
 cast-put-rest c =

@@ -1,6 +1,7 @@
 -- The loop's invariant: what is left to do, done from here, gives what all of it gives from the start.
 use Prim.Native.Nat.{ℕ, _+_, _-_, _<_, _≤_, min}
 use mathlib.Core.Path.{_≡_, refl, sym, ap, _∙_}
+use mathlib.Core.Bool.{true}
 use mathlib.Core.List.{List, []}
 use native.Mathlib.Omega.{arith}
 use borrow.Author.Needs.{needs}
@@ -19,11 +20,12 @@ use Rattle.whole.proofs.Lin.{at}
 use Rattle.whole.proofs.Num.{nums, num-in, num-back, fits, gives}
 use Rattle.settings.specs.Table.{reach, window}
 use Rattle.window.specs.Window.{sumOf}
-use Rattle.window.specs.Means.{firstBad, pastOf}
+use Rattle.temperature.specs.Temperature.{ranged}
+use Rattle.window.specs.Means.{pastOf}
 use Rattle.window.specs.Running.{meansAt}
 use Rattle.window.specs.Bounds.{sumReach}
 use Rattle.window.proofs.Sums.{mean-ok, sum-reach}
-use Rattle.window.proofs.Bad.{good-each, good-bits}
+use Rattle.window.proofs.Ranged.{ranged-each, ranged-bits}
 use Rattle.window.proofs.Taken.{means-turn, past-each, past-bits}
 use Rattle.window.proofs.Runs.{slides}
 use Rattle.window.proofs.means.put_rest.Statement.{statement}
@@ -48,9 +50,9 @@ slid-is : (sum new gone : ℤ) → Within sumReach sum → Within reach new → 
 slid-is sum new gone h f g = gives (search nums depth 20) tt refl
 
 -- the sum of the last of the samples is small
-past-small : (n i : ℕ) (s : List ℤ) → n ≤ window → firstBad s ≡ length s → Within sumReach (sumOf (take n (pastOf [] s i)))
+past-small : (n i : ℕ) (s : List ℤ) → n ≤ window → ranged s ≡ true → Within sumReach (sumOf (take n (pastOf [] s i)))
 past-small n i s h g =
-    sum-reach n (pastOf [] s i) h (past-each _ _ [] s i (λ _. inside-yes (negsuc 999999) (pos reach) (pos 0) refl) (good-each s g))
+    sum-reach n (pastOf [] s i) h (past-each _ _ [] s i (λ _. inside-yes (negsuc 999999) (pos reach) (pos 0) refl) (ranged-each s g))
 
 -- the sum that a turn begins with, and the next
 module _ (c : tie.In-loop Inv-loop μ-loop) where
@@ -67,7 +69,7 @@ module _ (c : tie.In-loop Inv-loop μ-loop) where
   sample-in i =
       let z = getD samples i (pos 0) in
       let Z = at z in
-      let b = good-each samples (c .before .before .pre .3) i in
+      let b = ranged-each samples (c .before .before .pre .3) i in
       let l = b .low in
       let h = b .high in
       omega (arith, zs)
@@ -136,7 +138,7 @@ mean-of-requires : tie.Need-mean-of-requires Inv-loop μ-loop
 mean-of-requires c κs =
     let l = c .before .before in
     rw (handed l)
-    (mean-ok (most l) _ (l .before .before .pre .0) (past-bits [] (samples l) (l .before .loop .i + 1) (λ _. record { sfits = lit< tt }) (good-bits (samples l) (l .before .before .pre .3))))
+    (mean-ok (most l) _ (l .before .before .pre .0) (past-bits [] (samples l) (l .before .loop .i + 1) (λ _. record { sfits = lit< tt }) (ranged-bits (samples l) (l .before .before .pre .3))))
 
 mul-mean : tie.Need-mul-mean Inv-loop μ-loop
 mul-mean c = search needs
