@@ -20,6 +20,7 @@ pub record LoopFit (l : Loop) : Type 0 where
   pub u : SFits w32 (l .u)
   pub integral : SFits w64 (l .integral)
   pub y : SFits w64 (l .y)
+  pub raw : SFits w32 (l .raw)
 
 pub record MovingFit (m : Moving) : Type 0 where
   pub w : SFits w64 (m .w)
@@ -39,6 +40,7 @@ loop-fit l is =
       u = record { sfits = h .1 .1 .1 .0 .1 };
       integral = record { sfits = h .1 .1 .1 .1 .0 .1 };
       y = record { sfits = h .1 .1 .1 .1 .1 .1 .0 .1 };
+      raw = record { sfits = h .1 .1 .1 .1 .1 .1 .1 .1 .0 .1 };
     }
 
 pub moving-fit : (m : Moving) → Is M.the-row m (val M.the-type M′.the-laws m ∷ []) → MovingFit m

@@ -8,7 +8,7 @@ use lib.Dec.{eqb, ltb}
 use lib.IntN.{ℤ, pos, negsuc}
 use lib.Signed.{ltZ}
 use Rattle.whole.specs.Numbers.{plus, inside}
-use Rattle.whole.proofs.Truth.{never, both, chosen, zero-then, zero-else, zero-if}
+use Rattle.whole.proofs.Truth.{never, both, and, chosen, zero-then, zero-else, zero-if}
 use Rattle.whole.proofs.Parts.{zs, inside-yes, yes-inside}
 use Rattle.whole.proofs.Lin.{at}
 use Rattle.settings.specs.declared.Settings.{Settings}
@@ -21,8 +21,9 @@ use Rattle.settings.specs.Table.{sets, inReach}
 use Rattle.settings.specs.Settings.{inTable, ordered}
 use Rattle.pid.specs.Record.{inRates, freshOf, valid}
 use Rattle.pid.specs.Sample.{limited, actedOf, movedOf}
-use Rattle.pid.specs.Law.{fixedOf, movingOf, readAt, withMode, withTarget, sampleOf, refusalOf, stepOf, lawOf}
+use Rattle.pid.specs.Law.{fixedOf, movingOf, guardOf, readAt, withMode, withTarget, sampleOf, refusalOf, stepOf, lawOf}
 use Rattle.pid.specs.Bounds.{MovingOk}
+use Rattle.temperature.proofs.Ranged.{taken-reach}
 use Rattle.window.proofs.Rules.{fresh-ok, taken-ok}
 use Rattle.settings.proofs.Ranges.{settings-in}
 use Rattle.pid.proofs.Rounding.{rounded-between}
@@ -44,6 +45,7 @@ moded l a p k h e f = record {
   zero = h .zero;
   pending = f;
   window = h .window;
+  raw = h .raw;
 }
 
 targeted : (l : Loop) (t r u : ℤ) → Holds l → inReach t ≡ true → inRates r ≡ true → inside (l .settings .lo) (l .settings .hi) u ≡ true →
@@ -61,6 +63,7 @@ targeted l t r u h a b c = record {
   zero = h .zero;
   pending = h .pending;
   window = h .window;
+  raw = h .raw;
 }
 
 -- "power stays within the loop's limits": a limited sum, rounded, lies in lo..hi
@@ -113,6 +116,7 @@ sample-holds l pv h e =
       zero = refl;
       pending = rw (sample-pending (l .automatic) (l .pending)) (h .pending);
       window = taken-ok (l .window) pv (h .window) e;
+      raw = and e refl;
     }
 
 set-in : (k : ℤ) → inside (pos 0) (pos (sets - 1)) k ≡ true → ltb (plus k) sets ≡ true
@@ -121,7 +125,7 @@ set-in (negsuc n) e = never e
 
 pub step-holds : (l : Loop) (c : Command) → Holds l → refusalOf l c ≡ 0 → Holds (stepOf l c)
 unfolding refusalOf stepOf
-step-holds l (Sample pv) h e = sample-holds l pv h (zero-then (inReach pv) 3 e)
+step-holds l (Sample pv) h e = sample-holds l pv h (taken-reach (guardOf l) pv e)
 step-holds l Hold h e = moded l false false (l .set) h (h .set) refl
 step-holds l (Put x) h e =
     targeted l (l .target) (l .rate) x h (h .target) (h .rate) (zero-then _ 4 (zero-else (l .automatic) 5 _ e .1))
@@ -136,7 +140,7 @@ step-holds l (Set k) h e =
 -- an accepted sample lies within ±1,000,000
 pub sample-reach : (l : Loop) (pv : ℤ) → refusalOf l (Sample pv) ≡ 0 → inReach pv ≡ true
 unfolding refusalOf
-sample-reach l pv e = zero-then (inReach pv) 3 e
+sample-reach l pv e = taken-reach (guardOf l) pv e
 
 pub fresh-holds : (s : Settings) → inTable s ≡ true → ordered s ≡ true → Holds (freshOf s)
 fresh-holds s t o =
@@ -154,6 +158,7 @@ fresh-holds s t o =
       zero = refl;
       pending = refl;
       window = fresh-ok;
+      raw = refl;
     }
 
 pub step-valid : (l : Loop) (c : Command) → valid l ≡ true → refusalOf l c ≡ 0 → valid (stepOf l c) ≡ true

@@ -1,6 +1,6 @@
 -- What the plain law answers, case by case: the crates above look no further into it.
 use Prim.Native.Nat.{ℕ, _-_}
-use mathlib.Core.Path.{_≡_}
+use mathlib.Core.Path.{_≡_, refl}
 use mathlib.Core.Bool.{true, false}
 use native.Mathlib.Omega.{arith}
 use borrow.Author.Tests.{eq-eqb, ne-eqb}
@@ -8,11 +8,13 @@ use lib.IntN.{ℤ, pos}
 use Rattle.whole.specs.Numbers.{inside}
 use Rattle.whole.proofs.Truth.{chosen}
 use Rattle.settings.specs.Table.{sets, inReach}
+use Rattle.temperature.specs.Temperature.{codeOf}
+use Rattle.temperature.proofs.Earliest.{one-of}
 use Rattle.command.specs.declared.Command.{Command}
 use Rattle.command.specs.declared.Command.the-variants.{Sample, Hold, Put, Automatic, Target, Set}
 use Rattle.pid.specs.declared.record.Loop.{Loop}
 use Rattle.pid.specs.Record.{inRates, valid}
-use Rattle.pid.specs.Law.{refusalOf, stepOf, lawOf}
+use Rattle.pid.specs.Law.{guardOf, refusalOf, stepOf, lawOf}
 
 module _ (l : Loop) (c : Command) where
   pub obeys : valid l ≡ true → refusalOf l c ≡ 0 → lawOf l c ≡ record { code = 0; state = stepOf l c }
@@ -27,15 +29,15 @@ module _ (l : Loop) (c : Command) where
   unfolding lawOf
   breaks v = rw v
 
--- a sample within ±1,000,000 is taken
-pub sample-taken : (l : Loop) (pv : ℤ) → inReach pv ≡ true → refusalOf l (Sample pv) ≡ 0
+-- a sample is refused as its raw temperature is
+pub sample-code : (l : Loop) (pv : ℤ) → refusalOf l (Sample pv) ≡ codeOf (guardOf l) pv
 unfolding refusalOf
-sample-taken l pv e = rw e
+sample-code l pv = refl
 
 -- 10 is no refusal of a command's content
 pub never-ten : (l : Loop) (c : Command) → refusalOf l c ≡ 10 → ⊥
 unfolding refusalOf
-never-ten l (Sample pv) = chosen (λ (n : ℕ). n ≡ 10 → ⊥) (inReach pv) (λ _ e. omega (arith, e)) (λ _ e. omega (arith, e))
+never-ten l (Sample pv) = one-of (λ (n : ℕ). n ≡ 10 → ⊥) (guardOf l) pv (λ e. omega (arith, e)) (λ e. omega (arith, e)) (λ e. omega (arith, e))
 never-ten l Hold = λ e. omega (arith, e)
 never-ten l (Put x) =
     chosen (λ (n : ℕ). n ≡ 10 → ⊥) (l .automatic) (λ _ e. omega (arith, e))

@@ -1,10 +1,10 @@
 -- A list of samples under the plain law: it is done on what moves, and what is answered and written, code by code.
 use Prim.Native.Nat.{ℕ, _<_, _≤_}
-use mathlib.Core.Path.{_≡_, refl, ap}
-use mathlib.Core.Bool.{true, false, cond}
+use mathlib.Core.Path.{_≡_, refl, ap, _∙_}
+use mathlib.Core.Bool.{true, false}
 use mathlib.Core.List.{List, [], _∷_, map}
 use native.Mathlib.Omega.{arith}
-use borrow.Author.Tests.{eqb-true, eqb-false, ne-eqb, lt-ltb, le-ltb, ltb-false}
+use borrow.Author.Tests.{eq-eqb, eqb-true, eqb-false, ne-eqb, lt-ltb, le-ltb, ltb-false}
 use lib.Dec.{eqb, ltb}
 use lib.IntN.{ℤ}
 use lib.ListN.{length}
@@ -12,20 +12,24 @@ use Rattle.whole.specs.Numbers.{plus}
 use Rattle.whole.proofs.Truth.{by-test, zero-if, zero-else}
 use Rattle.window.specs.declared.Window.{Window}
 use Rattle.window.specs.Window.{taken, meanAt}
-use Rattle.window.proofs.Bad.{bad-most}
-use Rattle.window.proofs.Good.{means-good}
-use Rattle.window.specs.Means.{firstBad, afterAll, meansOf, frontFilled}
+use Rattle.temperature.specs.declared.Guard.{Guard}
+use Rattle.temperature.specs.Temperature.{past, firstBad, firstCode, ranged, rawAfter}
+use Rattle.temperature.proofs.Earliest.{code-none, either-bad}
+use Rattle.temperature.proofs.Ranged.{all-ranged}
+use Rattle.window.proofs.Good.{means-ranged}
+use Rattle.window.specs.Means.{afterAll, meansOf, frontFilled}
 use Rattle.command.specs.declared.Command.the-variants.{Sample}
 use Rattle.pid.specs.declared.record.Loop.{Loop}
 use Rattle.pid.specs.declared.sample.Moving.{Moving}
 use Rattle.pid.specs.declared.play.Played.{Played}
 use Rattle.pid.specs.Record.{valid}
-use Rattle.pid.specs.Sample.{movedOf}
-use Rattle.pid.specs.Law.{withMoving, fixedOf, sampleOf, stepOf}
+use Rattle.pid.specs.Sample.{actedOf, movedOf}
+use Rattle.pid.specs.Law.{withMoving, fixedOf, guardOf, sampleOf, refusalOf, stepOf}
 use Rattle.command.specs.Sequence.{after, each}
 use Rattle.command.proofs.Sequences.{after-through}
-use Rattle.pid.specs.Play.{sampled, afterSamples, outputsOf, playRefusal, refusedOf, playedOf, wroteOf, readsOf, movedAfter, movedOutputs}
+use Rattle.pid.specs.Play.{sampled, afterSamples, outputsOf, playRefusal, refusedOf, placed, playedOf, wroteOf, readsOf, movedAfter, movedOutputs}
 use Rattle.pid.proofs.Sound.{holds-of}
+use Rattle.pid.proofs.Obeys.{sample-code}
 use Rattle.pid.proofs.Turns.{each-length}
 
 -- ---- the law's samples are done on the window and on what moves
@@ -35,22 +39,34 @@ module _ (l : Loop) where
   abbrev read : Window → ℤ → ℤ
   read w pv = meanAt (plus (l .settings .mean)) w pv
 
-  pub after-moved : (w : Window) (m : Moving) (pvs : List ℤ) →
-      afterSamples (withMoving l w m) pvs ≡ withMoving l (afterAll w pvs) (movedAfter (fixedOf l) m (meansOf (plus (l .settings .mean)) w pvs))
-  unfolding after each stepOf sampleOf
-  after-moved w m [] = refl
-  after-moved w m (pv ∷ pvs) = after-moved (taken w pv) (movedOf (fixedOf l) m (read w pv)) pvs
+  pub after-moved : (w : Window) (raw : ℤ) (m : Moving) (pvs : List ℤ) →
+      afterSamples (withMoving l w raw m) pvs ≡ withMoving l (afterAll w pvs) (rawAfter raw pvs) (movedAfter (fixedOf l) m (meansOf (plus (l .settings .mean)) w pvs))
+  unfolding after each stepOf sampleOf rawAfter
+  after-moved w raw m [] = refl
+  after-moved w raw m (pv ∷ pvs) = after-moved (taken w pv) pv (movedOf (fixedOf l) m (read w pv)) pvs
 
-  pub outputs-moved : (w : Window) (m : Moving) (pvs : List ℤ) →
-      outputsOf (withMoving l w m) pvs ≡ movedOutputs (fixedOf l) m (meansOf (plus (l .settings .mean)) w pvs)
+  pub outputs-moved : (w : Window) (raw : ℤ) (m : Moving) (pvs : List ℤ) →
+      outputsOf (withMoving l w raw m) pvs ≡ movedOutputs (fixedOf l) m (meansOf (plus (l .settings .mean)) w pvs)
   unfolding each stepOf sampleOf
-  outputs-moved w m [] = refl
-  outputs-moved w m (pv ∷ pvs) =
-      ap (λ (us : List ℤ). movedOf (fixedOf l) m (read w pv) .u ∷ us) (outputs-moved (taken w pv) (movedOf (fixedOf l) m (read w pv)) pvs)
+  outputs-moved w raw m [] = refl
+  outputs-moved w raw m (pv ∷ pvs) =
+      ap (λ (us : List ℤ). movedOf (fixedOf l) m (read w pv) .u ∷ us) (outputs-moved (taken w pv) pv (movedOf (fixedOf l) m (read w pv)) pvs)
 
--- what the law reads of good samples is good
-pub reads-good : (l : Loop) (pvs : List ℤ) → valid l ≡ true → firstBad pvs ≡ length pvs → firstBad (readsOf l pvs) ≡ length pvs
-reads-good l pvs v g = means-good (plus (l .settings .mean)) (l .window) pvs (holds-of l v .window) g
+-- what the law reads of good samples lies in range
+pub reads-ranged : (l : Loop) (pvs : List ℤ) → valid l ≡ true → firstCode (guardOf l) pvs ≡ 0 → ranged (readsOf l pvs) ≡ true
+reads-ranged l pvs v g = means-ranged (plus (l .settings .mean)) (l .window) pvs (holds-of l v .window) (all-ranged (guardOf l) pvs g)
+
+-- after a sample the next is held against it
+guard-past : (l : Loop) (pv : ℤ) → guardOf (sampled l pv) ≡ past (guardOf l) pv
+unfolding stepOf sampleOf actedOf
+guard-past l pv = refl
+
+-- of good samples the law takes the first, and after it the others are good
+pub good-first : (l : Loop) (pv : ℤ) (pvs : List ℤ) → firstCode (guardOf l) (pv ∷ pvs) ≡ 0 →
+    (refusalOf l (Sample pv) ≡ 0) × (firstCode (guardOf (sampled l pv)) pvs ≡ 0)
+good-first l pv pvs e =
+    let g = code-none (guardOf l) pv pvs e in
+    (sample-code l pv ∙ g .0, ap (λ (x : Guard). firstCode x pvs) (guard-past l pv) ∙ g .1)
 
 pub reads-length : (l : Loop) (pvs : List ℤ) → length (readsOf l pvs) ≡ length pvs
 reads-length l pvs = each-length taken (meanAt (plus (l .settings .mean))) (l .window) pvs
@@ -75,13 +91,16 @@ module _ (l : Loop) (pvs : List ℤ) (room : ℕ) where
     code-12 h = rw (v, lt-ltb room (length pvs) h)
 
     module _ (long : length pvs ≤ room) where
-      pub code-4 : firstBad pvs < length pvs → playRefusal l pvs room ≡ 4
+      -- 4 or 19, and 0 where none is bad
+      pub code-bad : playRefusal l pvs room ≡ firstCode (guardOf l) pvs
       unfolding playRefusal
-      code-4 h = rw (v, le-ltb room (length pvs) long, lt-ltb (firstBad pvs) (length pvs) h)
+      code-bad = rw (v, le-ltb room (length pvs) long)
 
-      pub code-0 : length pvs ≤ firstBad pvs → playRefusal l pvs room ≡ 0
-      unfolding playRefusal
-      code-0 h = rw (v, le-ltb room (length pvs) long, le-ltb (firstBad pvs) (length pvs) h)
+-- where a sample is bad the code is one that has its place
+pub bad-placed : (g : Guard) (pvs : List ℤ) → (firstCode g pvs ≡ 0 → ⊥) → placed (firstCode g pvs) (firstBad g pvs) ≡ firstBad g pvs
+bad-placed g pvs h = by-test (eqb (firstCode g pvs) 4)
+    (λ e. rw e)
+    (λ e. rw (e, eq-eqb (firstCode g pvs) 19 (either-bad g pvs h (eqb-false (firstCode g pvs) 4 e))))
 
 module _ (l : Loop) (pvs out : List ℤ) where
   -- what is answered and what is written
@@ -89,7 +108,7 @@ module _ (l : Loop) (pvs out : List ℤ) where
   Plays r written = (r ≡ playedOf l pvs (length out)) × (written ≡ wroteOf l pvs out)
 
   pub plays-refused : (code : ℕ) → playRefusal l pvs (length out) ≡ code → (code ≡ 0 → ⊥) →
-      Plays (refusedOf l code (cond (eqb code 4) (firstBad pvs) 0)) out
+      Plays (refusedOf l code (placed code (firstBad (guardOf l) pvs))) out
   unfolding playedOf wroteOf
   plays-refused code e z = (rw (e, ne-eqb code 0 z), rw (e, ne-eqb code 0 z))
 
@@ -102,17 +121,14 @@ module _ (l : Loop) (pvs out : List ℤ) where
 pub record Playable (l : Loop) (pvs : List ℤ) (room : ℕ) : Type 0 where
   pub rules : valid l ≡ true
   pub long : length pvs ≤ room
-  pub good : firstBad pvs ≡ length pvs
+  pub good : firstCode (guardOf l) pvs ≡ 0
 
 pub playable : (l : Loop) (pvs : List ℤ) (room : ℕ) → playRefusal l pvs room ≡ 0 → Playable l pvs room
 unfolding playRefusal
 playable l pvs room e =
     let v = zero-if (valid l) _ 9 e in
     let r = zero-else (ltb room (length pvs)) 11 _ (v .1) in
-    let b = zero-else (ltb (firstBad pvs) (length pvs)) 3 0 (r .1) in
-    let most = bad-most pvs in
-    let least = ltb-false (firstBad pvs) (length pvs) (b .0) in
-    record { rules = v .0; long = ltb-false room (length pvs) (r .0); good = omega arith }
+    record { rules = v .0; long = ltb-false room (length pvs) (r .0); good = r .1 }
 
 -- what the answer of a list tells
 module _ (l : Loop) (pvs out : List ℤ) where
@@ -122,7 +138,7 @@ module _ (l : Loop) (pvs out : List ℤ) where
   -- of one that is refused
   pub record Refused : Type 0 where
     pub refusal : playRefusal l pvs (length out) ≡ playedOf l pvs (length out) .code
-    pub place : playedOf l pvs (length out) .place ≡ cond (eqb (playedOf l pvs (length out) .code) 4) (firstBad pvs) 0
+    pub place : playedOf l pvs (length out) .place ≡ placed (playedOf l pvs (length out) .code) (firstBad (guardOf l) pvs)
     pub list : wroteOf l pvs out ≡ out
 
   pub played-refused : (playedOf l pvs (length out) .code ≡ 0 → ⊥) → Refused

@@ -16,7 +16,7 @@ use Rattle.pid.specs.declared.record.Loop.{Loop}
 use Rattle.settings.specs.Table.{sets, inReach}
 use Rattle.settings.specs.Settings.{gainsAt, inTable, ordered}
 use Rattle.window.specs.Window.{windowOk}
-use Rattle.pid.specs.Record.{inRates, inB, inFine, placesOk, fineOk, pendingOk, valid}
+use Rattle.pid.specs.Record.{inRates, inB, inFine, placesOk, fineOk, pendingOk, rawOk, valid}
 use Rattle.pid.specs.Law.{fixedOf, movingOf, readAt}
 use Rattle.pid.specs.Bounds.{FixedOk, MovingOk}
 use Rattle.window.proofs.Rules.{mean-in}
@@ -35,6 +35,7 @@ pub record Holds (l : Loop) : Type 0 where
   pub zero : (l .primed || eqZ (l .y) (pos 0)) ≡ true
   pub pending : pendingOk l ≡ true
   pub window : windowOk (l .window) ≡ true
+  pub raw : rawOk l ≡ true
 
 pub holds-of : (l : Loop) → valid l ≡ true → Holds l
 unfolding valid
@@ -49,7 +50,8 @@ holds-of l e =
     let I = inB (l .integral) in
     let Y = inFine (l .y) in
     let Z = l .primed || eqZ (l .y) (pos 0) in
-    let v = both (T && O && placesOk l && fineOk l && pendingOk l) (windowOk (l .window)) e in
+    let x = both (T && O && placesOk l && fineOk l && pendingOk l && windowOk (l .window)) (rawOk l) e in
+    let v = both (T && O && placesOk l && fineOk l && pendingOk l) (windowOk (l .window)) (x .0) in
     let p = both (T && O && placesOk l && fineOk l) (pendingOk l) (v .0) in
     let f = both (T && O && placesOk l) (fineOk l) (p .0) in
     let s = both (T && O) (placesOk l) (f .0) in
@@ -73,6 +75,7 @@ holds-of l e =
       zero = z .1;
       pending = p .1;
       window = v .1;
+      raw = x .1;
     }
 
 pub valid-of : (l : Loop) → Holds l → valid l ≡ true
@@ -81,10 +84,12 @@ valid-of l h =
     and
     (and
     (and
+    (and
     (and (and (h .table) (h .order)) (and (and (and (and (h .w) (h .target)) (h .rate)) (h .set)) (h .u)))
     (and (and (h .integral) (h .y)) (h .zero)))
     (h .pending))
-    (h .window)
+    (h .window))
+    (h .raw)
 
 -- ---- ranges and bounds
 

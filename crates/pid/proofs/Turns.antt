@@ -1,6 +1,7 @@
 -- The loop over what the law reads, which takes the outputs in its place: one turn, and its end.
 use Prim.Native.Nat.{ℕ, suc, _+_, _<_, _≤_}
 use mathlib.Core.Path.{_≡_, refl, sym, ap, _∙_}
+use mathlib.Core.Bool.{true}
 use mathlib.Core.List.{List, [], _∷_}
 use native.Mathlib.Numerals.{add-one}
 use native.Mathlib.Omega.{arith}
@@ -11,8 +12,9 @@ use Rattle.whole.specs.Numbers.{Within}
 use Rattle.pid.specs.declared.sample.Fixed.{Fixed}
 use Rattle.pid.specs.declared.sample.Moving.{Moving}
 use Rattle.settings.specs.Table.{reach}
-use Rattle.window.specs.Means.{firstBad, frontFilled}
-use Rattle.window.proofs.Bad.{first-good, good-on}
+use Rattle.temperature.specs.Temperature.{ranged}
+use Rattle.temperature.proofs.Ranged.{ranged-first, ranged-on}
+use Rattle.window.specs.Means.{frontFilled}
 use Rattle.window.proofs.Taken.{sets-front}
 use Rattle.pid.specs.Sample.{movedOf}
 use Rattle.pid.specs.Bounds.{FixedOk, MovingOk}
@@ -31,7 +33,7 @@ pub record Turn (f : Fixed) (pvs out₀ : List ℤ) (m₀ : Moving) (out : List 
   pub bound : i ≤ length pvs
   pub long : length out ≡ length out₀
   pub rest : drop i out ≡ drop i out₀
-  pub good : firstBad (drop i pvs) ≡ length (drop i pvs)
+  pub good : ranged (drop i pvs) ≡ true
   pub ok : MovingOk m
   pub outputs : sets out i (movedOutputs f m (drop i pvs)) ≡ sets out₀ 0 (movedOutputs f m₀ pvs)
   pub moved : movedAfter f m (drop i pvs) ≡ movedAfter f m₀ pvs
@@ -45,7 +47,7 @@ module _ {f : Fixed} {pvs out₀ : List ℤ} {m₀ : Moving} {out : List ℤ} {m
 
   module _ (more : i < length pvs) where
     pub sample-in : Within reach (getD pvs i (pos 0))
-    sample-in = in-range 999999 (getD pvs i (pos 0)) (good-on pvs i more (t .good) .0)
+    sample-in = in-range 999999 (getD pvs i (pos 0)) (ranged-on pvs i more (t .good) .0)
 
     pub moved-ok : FixedOk f → MovingOk (movedOf f m (getD pvs i (pos 0)))
     moved-ok g = acted-ok _ _ _ g (t .ok) (sensed-ok _ _ _ g (t .ok) sample-in)
@@ -60,7 +62,7 @@ module _ {f : Fixed} {pvs out₀ : List ℤ} {m₀ : Moving} {out : List ℤ} {m
           ∙ sym (drop-drop 1 i out)
           ∙ ap (drop 1) (t .rest)
           ∙ drop-drop 1 i out₀;
-      good = good-on pvs i more (t .good) .1;
+      good = ranged-on pvs i more (t .good) .1;
       ok = moved-ok g;
       outputs = rw (add-one i) (rw (drop-cons pvs i (pos 0) more) at (t .outputs));
       moved = rw (add-one i) (rw (drop-cons pvs i (pos 0) more) at (t .moved));
@@ -79,9 +81,9 @@ module _ {f : Fixed} {pvs out₀ : List ℤ} {m₀ : Moving} {out : List ℤ} {m
     end-outputs h = (rw (end, drop-length pvs) at (t .outputs)) ∙ sets-front out₀ (movedOutputs f m₀ pvs) (rw (each-length (movedOf f) _ m₀ pvs) h)
 
 -- what moves stays within its bounds
-pub all-ok : (f : Fixed) (m : Moving) (pvs : List ℤ) → FixedOk f → MovingOk m → firstBad pvs ≡ length pvs → MovingOk (movedAfter f m pvs)
+pub all-ok : (f : Fixed) (m : Moving) (pvs : List ℤ) → FixedOk f → MovingOk m → ranged pvs ≡ true → MovingOk (movedAfter f m pvs)
 unfolding after
 all-ok f m [] g o e = o
 all-ok f m (pv ∷ pvs) g o e =
-    let h = first-good pv pvs e in
+    let h = ranged-first pv pvs e in
     all-ok f (movedOf f m pv) pvs g (acted-ok _ _ _ g o (sensed-ok _ _ _ g o (in-range 999999 pv (h .0)))) (h .1)

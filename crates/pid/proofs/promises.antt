@@ -4,3 +4,4 @@ pub mod Demand2
 pub mod Play
 pub mod Examples
 pub mod Mean
+pub mod Jump

@@ -6,6 +6,8 @@ use lib.IntN.{ℤ, pos, negℤ, _*ℤ_}
 use Rattle.whole.specs.Numbers.{plus, eqZ, inside}
 use Rattle.command.specs.declared.Command.{Command}
 use Rattle.command.specs.declared.Command.the-variants.{Sample, Hold, Put, Automatic, Target, Set}
+use Rattle.temperature.specs.declared.Guard.{Guard}
+use Rattle.temperature.specs.Temperature.{codeOf}
 use Rattle.window.specs.declared.Window.{Window}
 use Rattle.window.specs.Window.{taken, meanAt}
 use Rattle.pid.specs.declared.record.Loop.{Loop}
@@ -20,8 +22,8 @@ use Rattle.pid.specs.Sample.{movedOf}
 
 -- ---- the groups of fields that a command changes, each written out once
 
-abbrev pub withMoving : Loop → Window → Moving → Loop
-withMoving l window m = record {
+abbrev pub withMoving : Loop → Window → ℤ → Moving → Loop
+withMoving l window raw m = record {
   settings = l .settings;
   automatic = l .automatic;
   pending = m .pending;
@@ -34,6 +36,7 @@ withMoving l window m = record {
   primed = m .primed;
   y = m .y;
   window = window;
+  raw = raw;
 }
 
 abbrev pub withMode : Loop → Bool → Bool → ℕ → Loop
@@ -50,6 +53,7 @@ withMode l automatic pending set = record {
   primed = l .primed;
   y = l .y;
   window = l .window;
+  raw = l .raw;
 }
 
 abbrev pub withTarget : Loop → ℤ → ℤ → ℤ → Loop
@@ -66,6 +70,7 @@ withTarget l target rate u = record {
   primed = l .primed;
   y = l .y;
   window = l .window;
+  raw = l .raw;
 }
 
 -- ---- what a sample reads of the loop, and what it moves
@@ -98,9 +103,9 @@ movingOf l = record { w = l .w; u = l .u; integral = l .integral; y = l .y; prim
 abbrev pub readAt : Loop → ℤ → ℤ
 readAt l pv = meanAt (plus (l .settings .mean)) (l .window) pv
 
--- "Sample pv." "The window takes every kept sample, in manual too."
+-- "Sample pv." "The window takes every kept sample, in manual too.", and it is "the last kept raw temperature" from then on
 unfoldable pub sampleOf : Loop → ℤ → Loop
-sampleOf l pv = withMoving l (taken (l .window) pv) (movedOf (fixedOf l) (movingOf l) (readAt l pv))
+sampleOf l pv = withMoving l (taken (l .window) pv) pv (movedOf (fixedOf l) (movingOf l) (readAt l pv))
 
 -- "Hold. Manual, not pending; u stays."
 abbrev pub holdOf : Loop → Loop
@@ -132,9 +137,14 @@ stepOf l (Set k) = setOf l (plus k)
 
 -- ---- the refusals: "then content, with 6 before 5 and 7 before 8"
 
--- "4: pv outside ±1,000,000", and "code 4 tests the raw one"
-abbrev pub sampleRefusal : ℤ → ℕ
-sampleRefusal pv = cond (inReach pv) 0 4
+-- what a raw temperature is held against
+abbrev pub guardOf : Loop → Guard
+guardOf l = record { automatic = l .automatic; primed = l .primed; jump = l .settings .jump; raw = l .raw }
+
+-- "4: pv outside ±1,000,000", and "code 4 tests the raw one"; "In automatic, a sample further than jump from the last kept raw
+-- temperature is refused, code 19, tested after 4." (02, request 8)
+abbrev pub sampleRefusal : Loop → ℤ → ℕ
+sampleRefusal l pv = codeOf (guardOf l) pv
 
 -- "6: put while automatic", "5: put outside lo..hi"
 abbrev pub putRefusal : Loop → ℤ → ℕ
@@ -149,7 +159,7 @@ abbrev pub setRefusal : ℤ → ℕ
 setRefusal k = cond (inside (pos 0) (pos (sets - 1)) k) 0 9
 
 unfoldable pub refusalOf : Loop → Command → ℕ
-refusalOf l (Sample pv) = sampleRefusal pv
+refusalOf l (Sample pv) = sampleRefusal l pv
 refusalOf l Hold = 0
 refusalOf l (Put x) = putRefusal l x
 refusalOf l Automatic = 0

@@ -1,12 +1,13 @@
 -- A list of samples under the plain law, with a list whose front takes the outputs: what 01's replay stands on.
 use Prim.Native.Nat.{ℕ}
-use mathlib.Core.Bool.{cond}
+use mathlib.Core.Bool.{cond, _||_}
 use mathlib.Core.List.{List}
 use lib.Dec.{eqb, ltb}
 use lib.IntN.{ℤ}
 use lib.ListN.{length}
 use Rattle.whole.specs.Numbers.{plus}
-use Rattle.window.specs.Means.{firstBad, meansOf, frontFilled}
+use Rattle.window.specs.Means.{meansOf, frontFilled}
+use Rattle.temperature.specs.Temperature.{firstBad, firstCode}
 use Rattle.command.specs.declared.Command.the-variants.{Sample}
 use Rattle.pid.specs.declared.record.Loop.{Loop}
 use Rattle.pid.specs.declared.sample.Fixed.{Fixed}
@@ -14,7 +15,7 @@ use Rattle.pid.specs.declared.sample.Moving.{Moving}
 use Rattle.pid.specs.declared.play.Played.{Played}
 use Rattle.pid.specs.Record.{valid}
 use Rattle.pid.specs.Sample.{movedOf}
-use Rattle.pid.specs.Law.{stepOf}
+use Rattle.pid.specs.Law.{guardOf, stepOf}
 use Rattle.command.specs.Sequence.{after, each}
 
 -- ---- the samples, each given once, in order
@@ -31,10 +32,9 @@ outputsOf l samples = each sampled (λ m pv. sampled m pv .u) l samples
 
 -- ---- what is refused
 
--- "10 [..] 12 [..] then 4": of a replay's order, what the law itself tests. room is the output list's length
+-- "10 [..] 12 [..] then 4", or 19: of a replay's order, what the law itself tests. room is the output list's length
 unfoldable pub playRefusal : Loop → List ℤ → ℕ → ℕ
-playRefusal l samples room =
-    cond (valid l) (cond (ltb room (length samples)) 12 (cond (ltb (firstBad samples) (length samples)) 4 0)) 10
+playRefusal l samples room = cond (valid l) (cond (ltb room (length samples)) 12 (firstCode (guardOf l) samples)) 10
 
 -- ---- what comes back
 
@@ -42,11 +42,15 @@ playRefusal l samples room =
 abbrev pub refusedOf : Loop → ℕ → ℕ → Played
 refusedOf l code place = record { code = code; place = place; state = l }
 
--- "then 4, with the place of the first bad sample"; "for every code but 4 the place is 0"
+-- "for every code but 4 the place is 0", and 19 has its place as 4 has
+abbrev pub placed : ℕ → ℕ → ℕ
+placed code place = cond (eqb code 4 || eqb code 19) place 0
+
+-- "the earliest bad sample is reported with its code and place" (02, request 8)
 unfoldable pub playedOf : Loop → List ℤ → ℕ → Played
 playedOf l samples room =
     let code = playRefusal l samples room in
-    cond (eqb code 0) (record { code = 0; place = 0; state = afterSamples l samples }) (refusedOf l code (cond (eqb code 4) (firstBad samples) 0))
+    cond (eqb code 0) (record { code = 0; place = 0; state = afterSamples l samples }) (refusedOf l code (placed code (firstBad (guardOf l) samples)))
 
 -- what the output list holds afterwards
 unfoldable pub wroteOf : Loop → List ℤ → List ℤ → List ℤ

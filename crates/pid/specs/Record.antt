@@ -26,6 +26,7 @@ freshOf s = record {
   primed = false;
   y = pos 0;
   window = freshWindow;
+  raw = pos 0;
 }
 
 -- "the blank: every number zero, manual, every flag no"
@@ -43,6 +44,7 @@ blankLoop = record {
   primed = false;
   y = pos 0;
   window = freshWindow;
+  raw = pos 0;
 }
 
 -- "Making a loop from settings tests 11, then 16. Where making a loop [..] is refused, what stands beside the code is the blank"
@@ -80,7 +82,12 @@ fineOk l = inB (l .integral) && inFine (l .y) && (l .primed || eqZ (l .y) (pos 0
 abbrev pub pendingOk : Loop → Bool
 pendingOk l = l .automatic || not (l .pending)
 
+-- "The last kept raw temperature joins the record, within ±1,000,000, and 0 while not primed." (02, request 8)
+abbrev pub rawOk : Loop → Bool
+rawOk l = inReach (l .raw) && (l .primed || eqZ (l .raw) (pos 0))
+
 -- the state rules of the loop: all of 01's but the one on the last number and command. "Settings within the table" asks lo < hi
 -- and out in lo..hi too
 unfoldable pub valid : Loop → Bool
-valid l = inTable (l .settings) && ordered (l .settings) && placesOk l && fineOk l && pendingOk l && windowOk (l .window)
+valid l =
+    inTable (l .settings) && ordered (l .settings) && placesOk l && fineOk l && pendingOk l && windowOk (l .window) && rawOk l

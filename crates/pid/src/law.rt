@@ -6,7 +6,7 @@ ghost use Rattle.whole.specs.Numbers.{plus, Within};
 ghost use Rattle.settings.specs.Table.{reach, sets, inReach};
 ghost use Rattle.settings.specs.Settings.{gainsAt};
 ghost use Rattle.pid.specs.Record.{valid};
-ghost use Rattle.pid.specs.Law.{signOf, fixedOf, movingOf, withMoving, sampleRefusal, putRefusal, targetRefusal, setRefusal, refusalOf, sampleOf, holdOf, putOf, automaticOf, targetOf, setOf, stepOf, lawOf};
+ghost use Rattle.pid.specs.Law.{signOf, fixedOf, movingOf, withMoving, guardOf, sampleRefusal, putRefusal, targetRefusal, setRefusal, refusalOf, sampleOf, holdOf, putOf, automaticOf, targetOf, setOf, stepOf, lawOf};
 use crate::record::Loop;
 use crate::sample::Fixed;
 use crate::sample::Moving;
@@ -15,6 +15,7 @@ use crate::sample::sense;
 use command::Command;
 use settings::Gains;
 use settings::Settings;
+use temperature::Guard;
 use window::Window;
 
 pub struct Obeyed {
@@ -47,16 +48,6 @@ fn index(k: i32) -> usize
     if 0 <= k { k as usize } else { 0 }
 }
 
-fn refuse_sample(pv: i32) -> u8
-    ensures { λ r. ⌜ r ≡ sampleRefusal pv ⌝ }
-{
-    if whole::lies_in(-Loop::REACH, Loop::REACH, pv) {
-        0
-    } else {
-        4
-    }
-}
-
 fn refuse_target(t: i32, r: i32) -> u8
     ensures { λ a. ⌜ a ≡ targetRefusal t r ⌝ }
 {
@@ -81,6 +72,24 @@ fn refuse_set(k: i32) -> u8
 }
 
 impl Loop {
+    // What a raw temperature is held against.
+    pub(crate) fn guard(self) -> Guard
+        ensures { λ r. ⌜ r ≡ guardOf self ⌝ }
+    {
+        Guard {
+            automatic: self.automatic,
+            primed: self.primed,
+            jump: self.settings.jump,
+            raw: self.raw,
+        }
+    }
+
+    fn refuse_sample(self, pv: i32) -> u8
+        ensures { λ r. ⌜ r ≡ sampleRefusal self pv ⌝ }
+    {
+        self.guard().refusal(pv)
+    }
+
     fn refuse_put(self, x: i32) -> u8
         ensures { λ r. ⌜ r ≡ putRefusal self x ⌝ }
     {
@@ -98,7 +107,7 @@ impl Loop {
         ensures { λ r. ⌜ r ≡ refusalOf self c ⌝ }
     {
         match c {
-            Command::Sample(pv) => refuse_sample(pv),
+            Command::Sample(pv) => self.refuse_sample(pv),
             Command::Hold => 0,
             Command::Put(x) => self.refuse_put(x),
             Command::Automatic => 0,
@@ -149,9 +158,9 @@ impl Loop {
         }
     }
 
-    pub(crate) fn with_moving(mut self, window: Window, m: Moving) -> Loop
+    pub(crate) fn with_moving(mut self, window: Window, raw: i32, m: Moving) -> Loop
         requires { ⌜ Within reach (m .w) × Within reach (m .u) ⌝ }
-        ensures { λ r. ⌜ r ≡ withMoving self window m ⌝ }
+        ensures { λ r. ⌜ r ≡ withMoving self window raw m ⌝ }
     {
         let w = narrow(m.w);
         let u = narrow(m.u);
@@ -162,6 +171,7 @@ impl Loop {
         self.primed = m.primed;
         self.pending = m.pending;
         self.window = window;
+        self.raw = raw;
         self
     }
 
@@ -181,7 +191,7 @@ impl Loop {
         let f = self.fixed();
         let m = self.moving();
         let z = sense(f, m, window.mean(self.mean()));
-        self.with_moving(window, act(f, m, z))
+        self.with_moving(window, pv, act(f, m, z))
     }
 
     fn hold(mut self) -> Loop

@@ -1,6 +1,6 @@
 // What a loop remembers, the state rules, and the making of a loop from settings.
 ghost use mathlib.Core.Path.{_≡_};
-ghost use Rattle.pid.specs.Record.{freshOf, blankLoop, madeOf, placesOk, fineOk, pendingOk, valid};
+ghost use Rattle.pid.specs.Record.{freshOf, blankLoop, madeOf, placesOk, fineOk, pendingOk, rawOk, valid};
 use settings::Settings;
 use window::Window;
 
@@ -17,6 +17,7 @@ pub struct Loop {
     pub primed: bool,
     pub y: i64,
     pub window: Window,
+    pub raw: i32,
 }
 
 pub struct Made {
@@ -63,6 +64,7 @@ impl Loop {
             primed: false,
             y: 0,
             window: Window::fresh(),
+            raw: 0,
         }
     }
 
@@ -114,6 +116,12 @@ impl Loop {
         self.automatic | !self.pending
     }
 
+    fn raw_ok(self) -> bool
+        ensures { λ r. ⌜ r ≡ rawOk self ⌝ }
+    {
+        (-Loop::REACH <= self.raw) & (self.raw <= Loop::REACH) & (self.primed | (self.raw == 0))
+    }
+
     // Whether the record keeps the state rules.
     pub fn is_valid(self) -> bool
         ensures { λ r. ⌜ r ≡ valid self ⌝ }
@@ -126,5 +134,6 @@ impl Loop {
             & self.fine_ok()
             & self.pending_ok()
             & w.is_valid()
+            & self.raw_ok()
     }
 }

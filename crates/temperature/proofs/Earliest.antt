@@ -1,6 +1,6 @@
 -- The earliest bad sample of a list.
 use Prim.Native.Nat.{ℕ, suc, _+_, _<_, _≤_}
-use mathlib.Core.Path.{_≡_, sym, _∙_}
+use mathlib.Core.Path.{_≡_, refl, sym, _∙_}
 use mathlib.Core.Bool.{Bool, true, false, cond}
 use mathlib.Core.List.{List, [], _∷_}
 use native.Mathlib.Numerals.{add-one}
@@ -10,13 +10,19 @@ use lib.Dec.{eqb}
 use lib.IntN.{ℤ, pos}
 use lib.ListN.{length, drop, getD}
 use lib.Seq.{drop-cons, drop-length}
-use Rattle.whole.proofs.Truth.{by-test}
+use Rattle.whole.proofs.Truth.{by-test, chosen}
+use Rattle.settings.specs.Table.{inReach}
 use Rattle.temperature.specs.declared.Guard.{Guard}
 use Rattle.temperature.specs.declared.Bad.{Bad}
-use Rattle.temperature.specs.Temperature.{codeOf, past, firstBad, firstCode}
+use Rattle.temperature.specs.Temperature.{jumps, codeOf, past, firstBad, firstCode}
 
 pub bad-is : {c d p q : ℕ} → c ≡ d → p ≡ q → _≡_ {A = Bad} (record { code = c; place = p }) (record { code = d; place = q })
 bad-is e f = rw (e, f)
+
+-- what holds of 0, 4 and 19 holds of a sample's code
+pub one-of : (P : ℕ → Type 0) (g : Guard) (pv : ℤ) → P 0 → P 4 → P 19 → P (codeOf g pv)
+unfolding codeOf
+one-of P g pv a b c = chosen P (inReach pv) (λ _. chosen P (jumps g pv) (λ _. c) (λ _. a)) (λ _. b)
 
 -- a sample that is taken, and one that is not
 pub bad-on : (g : Guard) (pv : ℤ) (pvs : List ℤ) → codeOf g pv ≡ 0 →
@@ -37,6 +43,19 @@ bad-most g (pv ∷ pvs) = go (eqb (codeOf g pv) 0) (bad-most (past g pv) pvs)
     go : (b : Bool) → firstBad (past g pv) pvs ≤ length pvs → cond b (suc (firstBad (past g pv) pvs)) 0 ≤ suc (length pvs)
     go true h = omega arith
     go false h = omega arith
+
+-- a bad one is refused 4 or 19
+first-of : (P : ℕ → Type 0) (g : Guard) (pvs : List ℤ) → P 0 → P 4 → P 19 → P (firstCode g pvs)
+unfolding firstCode
+first-of P g [] a b c = a
+first-of P g (pv ∷ pvs) a b c = chosen P (eqb (codeOf g pv) 0) (λ _. first-of P (past g pv) pvs a b c) (λ _. one-of P g pv a b c)
+
+pub either-bad : (g : Guard) (pvs : List ℤ) → (firstCode g pvs ≡ 0 → ⊥) → (firstCode g pvs ≡ 4 → ⊥) → firstCode g pvs ≡ 19
+either-bad g pvs =
+    first-of (λ (n : ℕ). (n ≡ 0 → ⊥) → (n ≡ 4 → ⊥) → n ≡ 19) g pvs
+    (λ h k. absurd (h refl))
+    (λ h k. absurd (k refl))
+    (λ h k. refl)
 
 -- where none is bad the first is taken, and none of the others is
 pub code-none : (g : Guard) (pv : ℤ) (pvs : List ℤ) → firstCode g (pv ∷ pvs) ≡ 0 → (codeOf g pv ≡ 0) × (firstCode (past g pv) pvs ≡ 0)

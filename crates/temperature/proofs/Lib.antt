@@ -2,3 +2,4 @@ mod Fit
 pub mod Apart
 pub mod Earliest
 pub mod Ranged
+pub mod promises

@@ -1,16 +1,16 @@
 -- Samples within ±1,000,000, and the last of some samples.
 use Prim.Native.Nat.{ℕ, zero, suc, _+_, _-_, _<_}
 use mathlib.Core.Path.{_≡_, refl, sym, ap, _∙_}
-use mathlib.Core.Bool.{true}
+use mathlib.Core.Bool.{true, false}
 use mathlib.Core.List.{List, [], _∷_}
 use native.Mathlib.Omega.{arith}
 use lib.IntN.{ℤ, pos}
 use lib.ListN.{length, drop, getD}
-use Rattle.whole.proofs.Truth.{both, and, zero-if}
+use Rattle.whole.proofs.Truth.{both, and, zero-if, zero-else}
 use Rattle.whole.proofs.Lists.{next}
 use Rattle.settings.specs.Table.{inReach}
 use Rattle.temperature.specs.declared.Guard.{Guard}
-use Rattle.temperature.specs.Temperature.{codeOf, past, firstCode, ranged, rawAfter}
+use Rattle.temperature.specs.Temperature.{further, jumps, codeOf, past, firstCode, ranged, rawAfter}
 use Rattle.temperature.proofs.Earliest.{code-none}
 
 -- a list of them: its first, and what is left at a place
@@ -25,6 +25,12 @@ ranged-on pvs i more e = ranged-first (getD pvs i (pos 0)) (drop (i + 1) pvs) (r
 pub taken-reach : (g : Guard) (pv : ℤ) → codeOf g pv ≡ 0 → inReach pv ≡ true
 unfolding codeOf
 taken-reach g pv e = zero-if (inReach pv) _ 3 e .0
+
+-- and, where it is tested, no further than jump from the one before
+pub taken-near : (g : Guard) (pv : ℤ) → g .automatic ≡ true → g .primed ≡ true → codeOf g pv ≡ 0 → further (g .jump) (g .raw) pv ≡ false
+unfolding codeOf
+taken-near g pv a p e =
+    rw (a, p) at (zero-else (jumps g pv) 18 0 (zero-if (inReach pv) _ 3 e .1) .0)
 
 pub all-ranged : (g : Guard) (pvs : List ℤ) → firstCode g pvs ≡ 0 → ranged pvs ≡ true
 all-ranged g [] e = refl

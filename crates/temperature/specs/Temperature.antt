@@ -1,9 +1,10 @@
 -- 01, "The law", code 4, and 02, request 8, code 19: which raw temperatures are refused, one by one and in a list.
-use Prim.Native.Nat.{ℕ, suc}
+use Prim.Native.Nat.{ℕ, zero, suc}
 use mathlib.Core.Bool.{Bool, true, cond, _&&_}
 use mathlib.Core.List.{List, [], _∷_}
 use lib.Dec.{eqb}
 use lib.IntN.{ℤ, pos, _-ℤ_}
+use lib.ListN.{getD}
 use lib.Signed.{ltZ}
 use Rattle.whole.specs.Numbers.{size}
 use Rattle.settings.specs.Table.{inReach}
@@ -44,6 +45,11 @@ firstCode g (pv ∷ pvs) = cond (eqb (codeOf g pv) 0) (firstCode (past g pv) pvs
 -- "the earliest bad sample is reported with its code and place"
 abbrev pub badOf : Guard → List ℤ → Bad
 badOf g pvs = record { code = firstCode g pvs; place = firstBad g pvs }
+
+-- what sample i is held against: the first against what was before them all, and every other against the sample before it
+abbrev pub heldAgainst : Guard → List ℤ → ℕ → Guard
+heldAgainst g pvs zero = g
+heldAgainst g pvs (suc i) = past g (getD pvs i (pos 0))
 
 -- whether each of them lies within ±1,000,000
 abbrev pub ranged : List ℤ → Bool

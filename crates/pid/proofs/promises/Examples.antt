@@ -14,6 +14,7 @@ use Rattle.pid.specs.declared.sample.Moving.{Moving}
 use Rattle.pid.specs.Units.{F, fine, rounded}
 use Rattle.settings.specs.Table.{rowsOf}
 use Rattle.settings.specs.Settings.{inTable}
+use Rattle.temperature.specs.Temperature.{codeOf}
 use Rattle.window.specs.Window.{freshWindow, taken, meanAt, windowOk}
 use Rattle.pid.specs.Record.{freshOf, valid}
 use Rattle.pid.specs.Law.{sampleOf, stepOf, refusalOf}
@@ -103,7 +104,7 @@ abbrev two : List Command
 two = Sample (pos 480) ∷ Set (pos 0) ∷ Sample (pos 478) ∷ []
 
 pub run-met : (valid warm ≡ true) × (accepted warm two ≡ true) × (unbroken warm two ≡ true) × (shares warm two ≡ fine 10 50)
-unfolding rounded rowsOf inTable freshWindow taken meanAt windowOk valid lesser greater limited ramped filtered derivative sensedOf clamped backCalculated integrated actedOf sampleOf stepOf refusalOf after accepted unbroken shares
+unfolding rounded rowsOf inTable freshWindow taken meanAt windowOk valid lesser greater limited ramped filtered derivative sensedOf clamped backCalculated integrated actedOf codeOf sampleOf stepOf refusalOf after accepted unbroken shares
 run-met = (refl, refl, refl, refl)
 
 -- from 500 to 800 by 50 takes six samples

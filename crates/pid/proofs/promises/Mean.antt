@@ -7,9 +7,9 @@ use lib.IntN.{ℤ, pos}
 use Rattle.whole.specs.Numbers.{plus}
 use Rattle.whole.proofs.Truth.{chosen, push}
 use Rattle.settings.specs.declared.Settings.{Settings}
-use Rattle.settings.specs.Table.{rowsOf}
+use Rattle.settings.specs.Table.{farthest, rowsOf}
 use Rattle.settings.specs.Settings.{inTable}
-use Rattle.settings.specs.SettingsC.{settingsC}
+use Rattle.settings.specs.SettingsC.{settingsWith}
 use Rattle.window.specs.Window.{freshWindow, taken, meanAt, windowOk}
 use Rattle.window.proofs.Runs.{mean-one}
 use Rattle.command.specs.declared.Command.{Command}
@@ -39,7 +39,7 @@ one-step : (l : Loop) (c : Command) → l .settings .mean ≡ pos 1 → plainSte
 unfolding plainStepOf plainSampleOf stepOf sampleOf
 one-step l (Sample pv) e =
     let r = ap (λ (z : ℤ). meanAt (plus z) (l .window) pv) e ∙ mean-one (l .window) pv in
-    ap (λ (z : ℤ). withMoving l freshWindow (movedOf (fixedOf l) (movingOf l) z)) (sym r)
+    ap (λ (z : ℤ). withMoving l freshWindow pv (movedOf (fixedOf l) (movingOf l) z)) (sym r)
 one-step l Hold e = refl
 one-step l (Put x) e = refl
 one-step l Automatic e = push windowless (l .automatic) _ _
@@ -79,16 +79,7 @@ one-outputs l (c ∷ cs) e =
 
 -- settings C with a mean over the last m
 abbrev meaned : ℤ → Settings
-meaned m = record {
-  action = settingsC .action;
-  lo = settingsC .lo;
-  hi = settingsC .hi;
-  out = settingsC .out;
-  sp = settingsC .sp;
-  rate = settingsC .rate;
-  mean = m;
-  gains = settingsC .gains;
-}
+meaned m = settingsWith m (pos farthest)
 
 abbrev outputs : ℤ → List ℤ
 outputs m =

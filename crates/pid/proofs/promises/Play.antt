@@ -8,28 +8,27 @@ use lib.Dec.{eqb}
 use lib.IntN.{ℤ}
 use lib.ListN.{length}
 use Rattle.whole.proofs.Truth.{by-test}
-use Rattle.window.proofs.Bad.{first-good}
-use Rattle.window.specs.Means.{firstBad}
+use Rattle.temperature.specs.Temperature.{firstCode}
 use Rattle.command.specs.declared.Command.the-variants.{Sample}
 use Rattle.pid.specs.declared.record.Loop.{Loop}
 use Rattle.pid.specs.Record.{valid}
 use Rattle.command.specs.Sequence.{after}
 use Rattle.pid.specs.Play.{sampled, afterSamples, playRefusal, playedOf, wroteOf}
+use Rattle.pid.specs.Law.{guardOf}
 use Rattle.pid.specs.Run.{obeyed}
 use Rattle.pid.proofs.Kept.{step-valid}
-use Rattle.pid.proofs.Obeys.{sample-taken}
-use Rattle.pid.proofs.Plays.{after-commands, playable}
+use Rattle.pid.proofs.Plays.{after-commands, good-first, playable}
 
 -- the samples are given as commands, each once, in order
 pub as-commands : (l : Loop) (samples : List ℤ) → afterSamples l samples ≡ obeyed l (map Sample samples)
 as-commands l samples = sym (after-commands l samples)
 
-all-valid : (l : Loop) (samples : List ℤ) → valid l ≡ true → firstBad samples ≡ length samples → valid (afterSamples l samples) ≡ true
+all-valid : (l : Loop) (samples : List ℤ) → valid l ≡ true → firstCode (guardOf l) samples ≡ 0 → valid (afterSamples l samples) ≡ true
 unfolding after
 all-valid l [] v g = v
 all-valid l (pv ∷ pvs) v g =
-    let h = first-good pv pvs g in
-    all-valid (sampled l pv) pvs (step-valid l (Sample pv) v (sample-taken l pv (h .0))) (h .1)
+    let h = good-first l pv pvs g in
+    all-valid (sampled l pv) pvs (step-valid l (Sample pv) v (h .0)) (h .1)
 
 -- the record that comes back keeps the state rules
 pub again : (l : Loop) (samples out : List ℤ) → valid l ≡ true → valid (playedOf l samples (length out) .state) ≡ true

@@ -22,6 +22,9 @@ pending-ok-requires c κs = search needs
 is-valid-requires : tie.Need-is-valid-requires
 is-valid-requires c κs = search needs
 
+raw-ok-requires : tie.Need-raw-ok-requires
+raw-ok-requires c κs = search needs
+
 returns : tie.Need-returns
 unfolding valid
 returns c =
@@ -29,11 +32,13 @@ returns c =
     (meet
     (meet
     (meet
-    (meet (c .before .before .before .before .before .in-table .ensures) (c .before .before .before .before .is-ordered .ensures))
-    (c .before .before .before .places-ok .ensures))
-    (c .before .before .fine-ok .ensures))
-    (c .before .pending-ok .ensures))
-    (c .is-valid .ensures)
+    (meet
+    (meet (c .before .before .before .before .before .before .in-table .ensures) (c .before .before .before .before .before .is-ordered .ensures))
+    (c .before .before .before .before .places-ok .ensures))
+    (c .before .before .before .fine-ok .ensures))
+    (c .before .before .pending-ok .ensures))
+    (c .before .is-valid .ensures))
+    (c .raw-ok .ensures)
 
 pub is-valid-spec : {M : Type 1} → statement M
 is-valid-spec =
@@ -45,4 +50,5 @@ is-valid-spec =
     fine-ok-requires
     pending-ok-requires
     is-valid-requires
+    raw-ok-requires
     returns)

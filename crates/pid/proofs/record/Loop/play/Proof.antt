@@ -1,4 +1,4 @@
-use Prim.Native.Nat.{_<_, _≤_}
+use Prim.Native.Nat.{ℕ, _≤_}
 use mathlib.Core.Path.{_≡_, sym, ap, ap₂, _∙_}
 use mathlib.Core.Bool.{true}
 use mathlib.Core.List.{List}
@@ -9,13 +9,15 @@ use lib.IntN.{ℤ}
 use lib.ListN.{length, take}
 use Rattle.whole.specs.Numbers.{plus}
 use Rattle.whole.proofs.Truth.{so}
-use Rattle.window.specs.Means.{firstBad, frontFilled, meansInto}
-use Rattle.window.proofs.Bad.{bad-most}
+use Rattle.temperature.specs.declared.Bad.{Bad}
+use Rattle.temperature.specs.Temperature.{badOf, firstBad, firstCode}
+use Rattle.window.specs.Means.{frontFilled, meansInto}
 use Rattle.window.proofs.Taken.{into-bad, into-front, front-take, front-long, front-twice}
 use Rattle.pid.specs.declared.record.Loop.{Loop}
 use Rattle.pid.specs.Record.{valid}
-use Rattle.pid.specs.Play.{outputsOf, readsOf, refusedOf}
-use Rattle.pid.proofs.Plays.{code-10, code-12, code-4, code-0, plays-refused, plays-done, reads-length, outputs-length}
+use Rattle.pid.specs.Law.{guardOf}
+use Rattle.pid.specs.Play.{outputsOf, readsOf, refusedOf, placed}
+use Rattle.pid.proofs.Plays.{code-10, code-12, code-bad, bad-placed, plays-refused, plays-done, reads-length, outputs-length}
 use Rattle.pid.proofs.record.Loop.play.Statement.{statement}
 use Rattle.pid.proofs.record.Loop.play.Tie as tie
 
@@ -54,34 +56,56 @@ returns-2 c =
 mean-requires : tie.Need-mean-requires
 mean-requires c κs = search needs
 
+guard-requires : tie.Need-guard-requires
+guard-requires c κs = search needs
+
 means-requires : tie.Need-means-requires
 means-requires c κs = search needs
 
--- what is known once the samples are looked at: the rules hold, there is room, the place, and what the list then holds
+-- what is known once the samples are looked at: the rules hold, there is room, the earliest bad one, and what the list then holds
 abbrev start : tie.After-means → tie.Start
-start c = c .before .before .before .before .before .before .before
+start c = c .before .before .before .before .before .before .before .before
 
 rules : (c : tie.After-means) → valid (l (start c)) ≡ true
 rules c =
-    let e = c .before .before .before .before .before in
+    let e = c .before .before .before .before .before .before in
     let v = e .before .is-valid in
     so (v .ensures) (not-false (v .result) (e .if1 .left))
 
 room : (c : tie.After-means) → length (pvs (start c)) ≤ length (out (start c))
-room c = c .before .before .before .before .if2 .left
+room c = c .before .before .before .before .before .if2 .left
 
-place-is : (c : tie.After-means) → c .means .result ≡ firstBad (pvs (start c))
-place-is c = c .means .ensures .0
+bad-is : (c : tie.After-means) → c .means .result ≡ badOf (guardOf (l (start c))) (pvs (start c))
+bad-is c = rw (c .before .before .guard .ensures) at (c .means .ensures .0)
 
-list-is : (c : tie.After-means) → c .means .last .1 .1 .1 .0 ≡ meansInto (plus (l (start c) .settings .mean)) (l (start c) .window) (pvs (start c)) (out (start c))
-list-is c = rw (c .before .before .mean .ensures) at (c .means .ensures .1)
+list-is : (c : tie.After-means) →
+    c .means .last .1 .1 .1 .1 .0 ≡ meansInto (plus (l (start c) .settings .mean)) (l (start c) .window) (guardOf (l (start c))) (pvs (start c)) (out (start c))
+list-is c = rw (c .before .before .before .mean .ensures, c .before .before .guard .ensures) at (c .means .ensures .1)
+
+code-is : (c : tie.After-means) → c .means .result .code ≡ firstCode (guardOf (l (start c))) (pvs (start c))
+code-is c = ap (λ (b : Bad). b .code) (bad-is c)
+
+-- a bad sample leaves the list as it was, and is told with its place
+bad : (c : tie.After-means) → (c .means .result .code ≡ 0 → ⊥) → c .means .last .1 .1 .1 .1 .0 ≡ out (start c)
+bad c h = list-is c ∙ sym (into-bad _ _ _ _ _ (λ z. h (code-is c ∙ z)))
+
+place-is : (c : tie.After-means) → (c .means .result .code ≡ 0 → ⊥) →
+    c .means .result .place ≡ placed (c .means .result .code) (firstBad (guardOf (l (start c))) (pvs (start c)))
+place-is c h =
+    ap (λ (b : Bad). b .place) (bad-is c)
+    ∙ sym (bad-placed (guardOf (l (start c))) (pvs (start c)) (λ z. h (code-is c ∙ z)))
+    ∙ ap (λ (n : ℕ). placed n (firstBad (guardOf (l (start c))) (pvs (start c)))) (sym (code-is c))
+
+-- where none is bad it holds the means
+none : (c : tie.After-means) → c .means .result .code ≡ 0 → firstCode (guardOf (l (start c))) (pvs (start c)) ≡ 0
+none c h = sym (code-is c) ∙ h
+
+filled : (c : tie.After-means) → c .means .result .code ≡ 0 →
+    c .means .last .1 .1 .1 .1 .0 ≡ frontFilled (readsOf (l (start c)) (pvs (start c))) (out (start c))
+filled c h = list-is c ∙ sym (into-front _ _ _ _ _ (none c h) (room c))
 
 refused-requires-3 : tie.Need-refused-requires-3
 refused-requires-3 c κs = search needs
-
--- a bad sample leaves the list as it was
-bad : (c : tie.After-means) → c .means .result < length (pvs (start c)) → c .means .last .1 .1 .1 .0 ≡ out (start c)
-bad c h = list-is c ∙ sym (into-bad _ _ _ _ (omega (arith, place-is c, h)))
 
 same-length : tie.Need-same-length
 same-length c =
@@ -93,18 +117,10 @@ returns-3 : tie.Need-returns-3
 returns-3 c =
     let t = c .before .before .before in
     let s = start t in
-    let e = place-is t in
     let h = c .before .if3 .taken in
-    let p = plays-refused (l s) (pvs s) (out s) 4 (code-4 (l s) (pvs s) (length (out s)) (rules t) (room t) (omega (arith, e, h))) (λ z. omega (arith, z)) in
-    (c .refused3 .ensures ∙ ap (refusedOf (l s) 4) e ∙ p .0, bad t h ∙ p .1)
-
--- where none is bad it holds the means
-none : (c : tie.After-means) → length (pvs (start c)) ≤ c .means .result → length (pvs (start c)) ≤ firstBad (pvs (start c))
-none c h = omega (arith, place-is c, h)
-
-filled : (c : tie.After-means) → length (pvs (start c)) ≤ c .means .result →
-    c .means .last .1 .1 .1 .0 ≡ frontFilled (readsOf (l (start c)) (pvs (start c))) (out (start c))
-filled c h = list-is c ∙ sym (into-front _ _ _ _ (none c h) (room c))
+    let f = code-is t in
+    let p = plays-refused (l s) (pvs s) (out s) (t .means .result .code) (code-bad (l s) (pvs s) (length (out s)) (rules t) (room t) ∙ sym f) h in
+    (c .refused3 .ensures ∙ ap (refusedOf (l s) (t .means .result .code)) (place-is t h) ∙ p .0, bad t h ∙ p .1)
 
 give-requires : tie.Need-give-requires
 give-requires c κs =
@@ -115,7 +131,7 @@ give-requires c κs =
     let n = reads-length (l s) (pvs s) in
     let e = filled t h in (
       rules t,
-      omega (arith, none t h, bad-most (pvs s)),
+      none t h,
       omega (arith, ap length e, front-long r (out s) (omega (arith, n, room t)), room t),
       ap₂ take (sym n) e ∙ front-take r (out s),
     )
@@ -134,7 +150,7 @@ returns-4 c =
     let t = g .before .before .before .before in
     let s = start t in
     let h = g .before .before .if3 .left in
-    let p = plays-done (l s) (pvs s) (out s) (code-0 (l s) (pvs s) (length (out s)) (rules t) (room t) (none t h)) in (
+    let p = plays-done (l s) (pvs s) (out s) (code-bad (l s) (pvs s) (length (out s)) (rules t) (room t) ∙ none t h) in (
       ap (λ (x : Loop). record { code = 0; place = 0; state = x }) (g .give .ensures .0) ∙ p .0,
       g .give .ensures .1
           ∙ ap (frontFilled (outputsOf (l s) (pvs s))) (filled t h)
@@ -152,6 +168,7 @@ play-spec =
     refused-requires-2
     returns-2
     mean-requires
+    guard-requires
     means-requires
     refused-requires-3
     same-length

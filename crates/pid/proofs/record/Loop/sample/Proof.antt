@@ -13,9 +13,10 @@ use Rattle.pid.specs.declared.record.Loop.{Loop}
 use Rattle.pid.specs.Record.{valid}
 use Rattle.pid.specs.Sample.{sensedOf, movedOf}
 use Rattle.pid.specs.Bounds.{FixedOk, MovingOk}
-use Rattle.pid.specs.Law.{withMoving, fixedOf, movingOf, readAt, sampleOf}
+use Rattle.pid.specs.Law.{fixedOf, movingOf, readAt, sampleOf}
 use Rattle.pid.proofs.Sound.{holds-of, fixed-ok, moving-ok, read-in}
 use Rattle.pid.proofs.Samples.{sensed-ok, acted-ok}
+use Rattle.pid.proofs.Shapes.{moving-with}
 use borrow.Author.Needs.{needs}
 use Rattle.pid.proofs.record.Loop.sample.Statement.{statement}
 use Rattle.pid.proofs.record.Loop.sample.Tie as tie
@@ -102,7 +103,7 @@ returns c =
     let s = start (a .before .before) in
     let l = s .args .self in
     let w : window (a .before .before) ≡ taken (l .window) (s .args .pv) = a .before .before .before .before .before .before .taken .ensures ∙ ap (taken (l .window)) (toZ-ofZ (s .fits .pv)) in
-    c .with-moving .ensures ∙ ap₂ (withMoving l) w (m-is a)
+    c .with-moving .ensures ∙ moving-with l w (toZ-ofZ (s .fits .pv)) (m-is a)
 
 pub sample-spec : {M : Type 1} → statement M
 sample-spec =

@@ -1,8 +1,7 @@
-use Rattle.whole.proofs.Truth.{zero-then}
+use Rattle.temperature.proofs.Ranged.{taken-reach}
 use mir.Syntax.{w32}
 use Rattle.whole.proofs.Bits.{back}
-use Rattle.settings.specs.Table.{inReach}
-use Rattle.pid.specs.Law.{refusalOf, stepOf}
+use Rattle.pid.specs.Law.{guardOf, refusalOf, stepOf}
 use borrow.Author.Needs.{needs}
 use Rattle.pid.proofs.record.Loop.step.Statement.{statement}
 use Rattle.pid.proofs.record.Loop.step.Tie as tie
@@ -15,7 +14,7 @@ unfolding refusalOf
 sample-requires c κs =
     let s = c .before .before .before in
     let r = c .before .c .given in
-    (s .pre .0, rw (back w32 (r .0 .0) (c .known-told .given .0 .1)) (zero-then (inReach (r .0 .0)) 3 (rw (r .1) at (s .pre .1))))
+    (s .pre .0, rw (back w32 (r .0 .0) (c .known-told .given .0 .1)) (taken-reach (guardOf (s .args .self)) (r .0 .0) (rw (r .1) at (s .pre .1))))
 
 enum-told : tie.Need-enum-told
 enum-told c = search needs

@@ -15,7 +15,7 @@ narrow-requires-2 c κs = let p = c .before .before .before .pre .1 in stays (se
 returns : tie.Need-returns
 returns c =
     let s = c .before .before .before .before .before .before in
-    let f = moving-fit (s .args .m) (s .good .1 .1 .0) in
+    let f = moving-fit (s .args .m) (s .good .1 .1 .1 .0) in
     let w = c .before .before .before .before .narrow in
     let u = c .before .before .narrow2 in
     rw (
@@ -27,6 +27,7 @@ returns c =
       toZ-ofZ (f .u),
       toZ-ofZ (f .integral),
       toZ-ofZ (f .y),
+      toZ-ofZ (s .fits .raw),
     )
 
 pub with-moving-spec : {M : Type 1} → statement M
