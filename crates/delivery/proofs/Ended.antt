@@ -110,7 +110,7 @@ accepted-by w d ds rest true e =
     rw e (and (both (eqb (d .number) (w .count + 1)) (eqb (refusalOf (w .state) (d .command)) 0) e .1) (rest (keeping plain window w d)))
 accepted-by w d ds rest false e = rw e (rest w)
 
-kept-accepted : (w : Walk plain) (ds : List (Sent plain)) → accepted (w .state) (kept plain window w ds) ≡ true
+pub kept-accepted : (w : Walk plain) (ds : List (Sent plain)) → accepted (w .state) (kept plain window w ds) ≡ true
 unfolding kept accepted
 kept-accepted w [] = refl
 kept-accepted w (d ∷ ds) = accepted-by w d ds (λ v. kept-accepted v ds) (keeps plain window w d) refl

@@ -1,6 +1,6 @@
 -- 01's order of a replay's refusals, case by case, and what a replay answers and writes.
 use Prim.Native.Nat.{ℕ, _+_, _<_, _≤_}
-use mathlib.Core.Path.{_≡_, ap, ap₂}
+use mathlib.Core.Path.{_≡_, refl, sym, ap, ap₂, _∙_}
 use mathlib.Core.Bool.{Bool, true, false, cond, _&&_, _||_, or-true}
 use mathlib.Core.List.{List}
 use native.Mathlib.Omega.{arith}
@@ -8,11 +8,12 @@ use borrow.Author.Tests.{eqb-true, eqb-false, ne-eqb, lt-ltb, le-ltb, le-leb, lt
 use lib.Dec.{eqb, ltb, leb}
 use lib.IntN.{ℤ}
 use lib.ListN.{length}
-use Rattle.whole.proofs.Truth.{and, by-test, cond-no, zero-if, zero-else}
-use Rattle.window.proofs.Bad.{bad-most}
-use Rattle.window.specs.Means.{firstBad, frontFilled}
+use Rattle.whole.proofs.Truth.{never, and, by-test, cond-no, zero-if, zero-else}
+use Rattle.temperature.specs.Temperature.{firstBad, firstCode}
+use Rattle.window.specs.Means.{frontFilled}
 use Rattle.pid.specs.Record.{valid}
-use Rattle.pid.specs.Play.{playRefusal}
+use Rattle.pid.specs.Law.{guardOf}
+use Rattle.pid.specs.Play.{hasPlace, placed, playRefusal}
 use Rattle.memory.proofs.Order.{neither}
 use Rattle.delivery.specs.declared.numbered.Numbered.{Numbered}
 use Rattle.delivery.specs.declared.replay.Replayed.{Replayed}
@@ -69,7 +70,7 @@ pub record Accepted (s : Numbered) (first : ℕ) (pvs : List ℤ) (room : ℕ) :
   pub next : first ≡ s .memory .number + 1
   pub long : length pvs ≤ room
   pub numbers : length pvs ≤ numbersLeft s
-  pub good : firstBad pvs ≡ length pvs
+  pub good : firstCode (guardOf (s .state)) pvs ≡ 0
 
 pub accepted-of : (s : Numbered) (first : ℕ) (pvs : List ℤ) (room : ℕ) → replayRefusal s first pvs room ≡ 0 → Accepted s first pvs room
 unfolding replayRefusal
@@ -79,32 +80,55 @@ accepted-of s first pvs room e =
     let g = zero-else (ltb (s .memory .number + 1) first) 2 _ (o .1) in
     let r = zero-else (ltb room (length pvs)) 11 _ (g .1) in
     let n = zero-else (ltb (numbersLeft s) (length pvs)) 12 _ (r .1) in
-    let b = zero-else (ltb (firstBad pvs) (length pvs)) 3 0 (n .1) in
     let above = leb-false first (s .memory .number) (neither (eqb first 0) (leb first (s .memory .number)) (o .0) .1) in
     let below = ltb-false (s .memory .number + 1) first (g .0) in
-    let most = bad-most pvs in
-    let least = ltb-false (firstBad pvs) (length pvs) (b .0) in
     record {
       rules = v .0;
       next = omega arith;
       long = ltb-false room (length pvs) (r .0);
       numbers = ltb-false (numbersLeft s) (length pvs) (n .0);
-      good = omega arith;
+      good = n .1;
     }
 
 pub accepted-when : (s : Numbered) (first : ℕ) (pvs : List ℤ) (room : ℕ) → Accepted s first pvs room → replayRefusal s first pvs room ≡ 0
 unfolding replayRefusal
 accepted-when s first pvs room a =
     let e = a .next in
-    let g = a .good in
     rw (
       a .rules,
       not-old s first pvs room (a .rules) (omega arith),
       le-ltb (s .memory .number + 1) first (omega arith),
       le-ltb room (length pvs) (a .long),
       le-ltb (numbersLeft s) (length pvs) (a .numbers),
-      le-ltb (firstBad pvs) (length pvs) (omega arith),
+      a .good,
     )
+
+-- a replay that is refused for one of its samples has all else
+module _ (s : Numbered) (first : ℕ) (pvs : List ℤ) (room : ℕ) where
+  pub record BadSample : Type 0 where
+    pub rules : validOf s ≡ true
+    pub next : first ≡ s .memory .number + 1
+    pub code : firstCode (guardOf (s .state)) pvs ≡ replayRefusal s first pvs room
+
+  pub bad-sample : hasPlace (replayRefusal s first pvs room) ≡ true → BadSample
+  unfolding replayRefusal
+  bad-sample p =
+      let v = if-not (validOf s) p refl in
+      let o = else-not (eqb first 0 || leb first (s .memory .number)) (v .1) refl in
+      let g = else-not (ltb (s .memory .number + 1) first) (o .1) refl in
+      let r = else-not (ltb room (length pvs)) (g .1) refl in
+      let n = else-not (ltb (numbersLeft s) (length pvs)) (r .1) refl in
+      let above = leb-false first (s .memory .number) (neither (eqb first 0) (leb first (s .memory .number)) (o .0) .1) in
+      let below = ltb-false (s .memory .number + 1) first (g .0) in
+      record { rules = v .0; next = omega arith; code = rw (v .0, o .0, g .0, r .0, n .0) }
+    where
+      if-not : (b : Bool) {m k : ℕ} → hasPlace (cond b m k) ≡ true → hasPlace k ≡ false → (b ≡ true) × (hasPlace m ≡ true)
+      if-not true e f = (refl, e)
+      if-not false e f = never (sym f ∙ e)
+
+      else-not : (b : Bool) {k m : ℕ} → hasPlace (cond b k m) ≡ true → hasPlace k ≡ false → (b ≡ false) × (hasPlace m ≡ true)
+      else-not true e f = never (sym f ∙ e)
+      else-not false e f = (refl, e)
 
 -- ---- what is answered and what is written
 
@@ -113,7 +137,7 @@ module _ (s : Numbered) (first : ℕ) (pvs out : List ℤ) where
   Replays r written = (r ≡ replayedOf s first pvs (length out)) × (written ≡ writtenOf s first pvs out)
 
   pub refuses : (code : ℕ) → replayRefusal s first pvs (length out) ≡ code → (code ≡ 0 → ⊥) →
-      Replays (refusedOf s code (cond (eqb code 4) (firstBad pvs) 0)) out
+      Replays (refusedOf s code (placed code (firstBad (guardOf (s .state)) pvs))) out
   unfolding replayedOf writtenOf
   refuses code e z = (rw (e, ne-eqb code 0 z), rw (e, ne-eqb code 0 z))
 
@@ -125,26 +149,26 @@ module _ (s : Numbered) (first : ℕ) (pvs out : List ℤ) where
   broken m = refuses 10 (code-10 s first pvs (length out) (ap (λ (t : Bool). t && valid (s .state)) m)) (λ z. omega (arith, z))
 
   module _ (m : memoryOk s ≡ true) where
-    stops : (code : ℕ) → (code ≡ 0 → ⊥) → (code ≡ 4 → ⊥) → (validOf s ≡ true → replayRefusal s first pvs (length out) ≡ code) →
+    stops : (code : ℕ) → (code ≡ 0 → ⊥) → hasPlace code ≡ false → (validOf s ≡ true → replayRefusal s first pvs (length out) ≡ code) →
         Replays (stoppedOf s code) out
     stops code z q f =
         by-test (valid (s .state))
-        (λ v. rw v (rw (ne-eqb code 4 q) at (refuses code (f (and m v)) z)))
+        (λ v. rw v (rw q at (refuses code (f (and m v)) z)))
         (λ v. rw v (refuses 10 (code-10 s first pvs (length out) (ap₂ (λ (a b : Bool). a && b) m v)) (λ e. omega (arith, e))))
 
     pub stops-1 : first ≤ s .memory .number → Replays (stoppedOf s 1) out
-    stops-1 h = stops 1 (λ z. omega (arith, z)) (λ z. omega (arith, z)) (λ v. code-1 s first pvs (length out) v h)
+    stops-1 h = stops 1 (λ z. omega (arith, z)) refl (λ v. code-1 s first pvs (length out) v h)
 
     module _ (above : s .memory .number < first) where
       pub stops-3 : s .memory .number + 1 < first → Replays (stoppedOf s 3) out
-      stops-3 h = stops 3 (λ z. omega (arith, z)) (λ z. omega (arith, z)) (λ v. code-3 s first pvs (length out) v above h)
+      stops-3 h = stops 3 (λ z. omega (arith, z)) refl (λ v. code-3 s first pvs (length out) v above h)
 
       module _ (next : first ≤ s .memory .number + 1) where
         pub stops-12 : length out < length pvs → Replays (stoppedOf s 12) out
-        stops-12 h = stops 12 (λ z. omega (arith, z)) (λ z. omega (arith, z)) (λ v. code-12 s first pvs (length out) v above next h)
+        stops-12 h = stops 12 (λ z. omega (arith, z)) refl (λ v. code-12 s first pvs (length out) v above next h)
 
         pub stops-13 : length pvs ≤ length out → numbersLeft s < length pvs → Replays (stoppedOf s 13) out
-        stops-13 room h = stops 13 (λ z. omega (arith, z)) (λ z. omega (arith, z)) (λ v. code-13 s first pvs (length out) v above next room h)
+        stops-13 room h = stops 13 (λ z. omega (arith, z)) refl (λ v. code-13 s first pvs (length out) v above next room h)
 
   pub by-code : (P : Replayed → List ℤ → Type 0) →
       (Accepted s first pvs (length out) → P (doneOf s first pvs) (frontFilled (deliveredOutputs s first pvs) out)) →

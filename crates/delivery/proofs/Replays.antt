@@ -9,18 +9,16 @@ use borrow.Author.Tests.{eq-eqb}
 use lib.IntN.{ℤ, pos}
 use lib.ListN.{length, getD, length-map}
 use Rattle.whole.proofs.Truth.{and, cond-yes}
-use Rattle.settings.specs.Table.{inReach}
-use Rattle.window.proofs.Bad.{first-good}
-use Rattle.window.specs.Means.{firstBad, frontFilled}
+use Rattle.temperature.specs.Temperature.{firstCode}
+use Rattle.window.specs.Means.{frontFilled}
 use Rattle.command.specs.declared.Command.{Command}
 use Rattle.command.specs.declared.Command.the-variants.{Sample}
 use Rattle.pid.specs.declared.record.Loop.{Loop}
-use Rattle.pid.specs.Law.{refusalOf, stepOf}
+use Rattle.pid.specs.Law.{guardOf, refusalOf, stepOf}
 use Rattle.command.specs.Sequence.{after, each}
 use Rattle.pid.specs.declared.play.Played.{Played}
 use Rattle.pid.specs.Play.{afterSamples, outputsOf, playRefusal, playedOf, wroteOf}
-use Rattle.pid.proofs.Obeys.{sample-taken}
-use Rattle.pid.proofs.Plays.{after-commands, played-refused, played-done, playable}
+use Rattle.pid.proofs.Plays.{good-first, after-commands, played-refused, played-done, playable}
 use Rattle.memory.specs.Memory.{window, lastOf}
 use Rattle.memory.specs.declared.Last.{Last}
 use Rattle.memory.specs.declared.Last.the-variants.{Kept as Last·Kept}
@@ -40,29 +38,29 @@ output a = a .output
 abbrev sent : ℕ → ℤ → Delivery Command
 sent n pv = record { number = n; command = Sample pv }
 
-module _ (w : Walk plain) (pv : ℤ) (e : inReach pv ≡ true) where
+module _ (w : Walk plain) (pv : ℤ) (e : refusalOf (w .state) (Sample pv) ≡ 0) where
   next-kept : keeps plain window w (sent (w .count + 1) pv) ≡ true
-  next-kept = and (eq-eqb (w .count + 1) (w .count + 1) refl) (eq-eqb (refusalOf (w .state) (Sample pv)) 0 (sample-taken (w .state) pv e))
+  next-kept = and (eq-eqb (w .count + 1) (w .count + 1) refl) (eq-eqb (refusalOf (w .state) (Sample pv)) 0 e)
 
   next-onward : onward plain window w (sent (w .count + 1) pv) ≡ keeping plain window w (sent (w .count + 1) pv)
   next-onward = cond-yes _ _ next-kept
 
-pub all-kept : (w : Walk plain) (pvs : List ℤ) → firstBad pvs ≡ length pvs → kept plain window w (numbered (w .count + 1) pvs) ≡ map Sample pvs
+pub all-kept : (w : Walk plain) (pvs : List ℤ) → firstCode (guardOf (w .state)) pvs ≡ 0 → kept plain window w (numbered (w .count + 1) pvs) ≡ map Sample pvs
 unfolding kept numbered
 all-kept w [] g = refl
 all-kept w (pv ∷ pvs) g =
-    let h = first-good pv pvs g in
+    let h = good-first (w .state) pv pvs g in
     let d = sent (w .count + 1) pv in
     cond-yes _ _ (next-kept w pv (h .0))
     ∙ ap (λ (x : Walk plain). Sample pv ∷ kept plain window x (numbered (w .count + 1 + 1) pvs)) (next-onward w pv (h .0))
     ∙ ap (λ (cs : List Command). Sample pv ∷ cs) (all-kept (keeping plain window w d) pvs (h .1))
 
-outputs-on : (w : Walk plain) (pvs : List ℤ) → firstBad pvs ≡ length pvs →
+outputs-on : (w : Walk plain) (pvs : List ℤ) → firstCode (guardOf (w .state)) pvs ≡ 0 →
     map output (each (onward plain window) (answerTo plain window) w (numbered (w .count + 1) pvs)) ≡ outputsOf (w .state) pvs
 unfolding each numbered
 outputs-on w [] g = refl
 outputs-on w (pv ∷ pvs) g =
-    let h = first-good pv pvs g in
+    let h = good-first (w .state) pv pvs g in
     let d = sent (w .count + 1) pv in
     ap₂ (λ (u : ℤ) (us : List ℤ). u ∷ us)
     (ap output (cond-yes (keptAnswer plain window w d) _ (next-kept w pv (h .0))))
@@ -71,7 +69,7 @@ outputs-on w (pv ∷ pvs) g =
 
 -- ---- both together
 
-module _ (s : Numbered) (pvs : List ℤ) (v : validOf s ≡ true) (g : firstBad pvs ≡ length pvs) where
+module _ (s : Numbered) (pvs : List ℤ) (v : validOf s ≡ true) (g : firstCode (guardOf (s .state)) pvs ≡ 0) where
   pub record-is :
       recordAfter s (s .memory .number + 1) pvs
       ≡ recordOf (afterSamples (s .state) pvs) (s .memory .number + length pvs) (lastOf (s .memory .last) (map Sample pvs))
@@ -92,7 +90,7 @@ last-sample m (pv ∷ []) (suc n) e = absurd (omega (arith, e))
 last-sample m (pv ∷ x ∷ pvs) zero e = absurd (omega (arith, e))
 last-sample m (pv ∷ x ∷ pvs) (suc n) e = last-sample (Last·Kept (Sample pv)) (x ∷ pvs) n (omega arith)
 
-pub some-record : (s : Numbered) (pvs : List ℤ) → validOf s ≡ true → firstBad pvs ≡ length pvs → (length pvs ≡ 0 → ⊥) →
+pub some-record : (s : Numbered) (pvs : List ℤ) → validOf s ≡ true → firstCode (guardOf (s .state)) pvs ≡ 0 → (length pvs ≡ 0 → ⊥) →
     recordAfter s (s .memory .number + 1) pvs
     ≡ recordOf (afterSamples (s .state) pvs) (s .memory .number + length pvs) (Last·Kept (Sample (getD pvs (length pvs - 1) (pos 0))))
 some-record s pvs v g h =
@@ -123,7 +121,7 @@ module _ (s : Numbered) (pvs out : List ℤ) (m : memoryOk s ≡ true) (long : l
       let b = refuses s next pvs out (played .code) (law's ∙ r .refusal) z in
       (ap (refusedOf s (played .code)) (r .place) ∙ b .0, r .list ∙ b .1)
 
-  pub played-through : played .code ≡ 0 → (validOf s ≡ true) × (firstBad pvs ≡ length pvs) × Replays s next pvs out (doneOf s next pvs) (wroteOf (s .state) pvs out)
+  pub played-through : played .code ≡ 0 → (validOf s ≡ true) × (firstCode (guardOf (s .state)) pvs ≡ 0) × Replays s next pvs out (doneOf s next pvs) (wroteOf (s .state) pvs out)
   played-through z =
       let d = played-done (s .state) pvs out z in
       let p = playable (s .state) pvs (length out) (d .refusal) in

@@ -5,7 +5,7 @@ use mathlib.Core.Bool.{true, false, cond}
 use native.Mathlib.Omega.{arith}
 use borrow.Author.Tests.{eq-eqb, ne-eqb, eqb-true, eqb-false}
 use lib.Dec.{eqb}
-use Rattle.whole.proofs.Truth.{never, and, both, by-test, chosen, cond-yes}
+use Rattle.whole.proofs.Truth.{never, and, both, by-test, chosen, cond-yes, cond-no}
 use Rattle.command.specs.declared.Command.{Command}
 use Rattle.pid.specs.declared.law.Obeyed.{Obeyed}
 use Rattle.pid.specs.Record.{valid}
@@ -87,6 +87,10 @@ module _ (s : Numbered) (n : ℕ) (c : Command) (v : validOf s ≡ true) where
   pub kept-one : n ≡ s .memory .number + 1 → refusalOf (s .state) c ≡ 0 → deliveredOf s n c ≡ answerOf 0 (keptOf (stepOf (s .state) c) n c)
   unfolding servedOf
   kept-one e z = served-as Next (number-next n (s .memory .number) _ (omega arith) e) ∙ cond-yes _ _ (eq-eqb (refusalOf (s .state) c) 0 z)
+
+  pub refused-one : n ≡ s .memory .number + 1 → (refusalOf (s .state) c ≡ 0 → ⊥) → deliveredOf s n c ≡ answerOf (refusalOf (s .state) c) s
+  unfolding servedOf
+  refused-one e z = served-as Next (number-next n (s .memory .number) _ (omega arith) e) ∙ cond-no _ _ (ne-eqb (refusalOf (s .state) c) 0 z)
 
   pub repeat-one : (n ≡ 0 → ⊥) → n ≡ s .memory .number → isLast (s .memory .last) c ≡ true → deliveredOf s n c ≡ answerOf 0 s
   unfolding servedOf

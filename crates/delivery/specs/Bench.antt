@@ -61,6 +61,7 @@ atLimit k i = record {
   primed = true;
   y = fine 400 0;
   window = freshWindow;
+  raw = pos 400;
 }
 
 -- "A fresh loop from C, in order": every row, and the cases below the log. Those that 01 marks * are marked here too

@@ -5,10 +5,13 @@ use mathlib.Core.List.{List, [], _∷_, map}
 use lib.Dec.{eqb, ltb, leb}
 use lib.IntN.{ℤ}
 use lib.ListN.{length}
-use Rattle.window.specs.Means.{firstBad, frontFilled}
+use Rattle.temperature.specs.Temperature.{firstBad, firstCode}
+use Rattle.window.specs.Means.{frontFilled}
 use Rattle.command.specs.declared.Command.{Command}
 use Rattle.command.specs.declared.Command.the-variants.{Sample}
 use Rattle.pid.specs.Record.{valid}
+use Rattle.pid.specs.Law.{guardOf}
+use Rattle.pid.specs.Play.{placed}
 use Rattle.command.specs.Sequence.{after, each}
 use Rattle.memory.specs.Memory.{lastNumber}
 use Rattle.memory.specs.Walk.{Delivery, Answer}
@@ -35,7 +38,7 @@ deliveredOutputs s first samples = map (λ (a : Answer ℤ). a .output) (each ha
 abbrev pub numbersLeft : Numbered → ℕ
 numbersLeft s = lastNumber - s .memory .number
 
--- "Order: 10; first number 0 or at most last: 1; above last + 1: 3; 12; 13; then 4". room is the output list's length
+-- "Order: 10; first number 0 or at most last: 1; above last + 1: 3; 12; 13; then 4", or 19. room is the output list's length
 --   12: "output list shorter than samples"
 --   13: "more samples than numbers left"
 unfoldable pub replayRefusal : Numbered → ℕ → List ℤ → ℕ → ℕ
@@ -45,7 +48,7 @@ replayRefusal s first samples room =
     (cond (ltb (s .memory .number + 1) first) 3
     (cond (ltb room (length samples)) 12
     (cond (ltb (numbersLeft s) (length samples)) 13
-    (cond (ltb (firstBad samples) (length samples)) 4 0)))))
+    (firstCode (guardOf (s .state)) samples)))))
     10
 
 -- ---- what comes back
@@ -62,11 +65,11 @@ refusedOf s code place = record { code = code; place = place; count = 0; state =
 abbrev pub stoppedOf : Numbered → ℕ → Replayed
 stoppedOf s code = cond (valid (s .state)) (refusedOf s code 0) (refusedOf s 10 0)
 
--- "then 4, with the place of the first bad sample"; "for every code but 4 the place is 0"
+-- "the earliest bad sample is reported with its code and place" (02, request 8)
 unfoldable pub replayedOf : Numbered → ℕ → List ℤ → ℕ → Replayed
 replayedOf s first samples room =
     let code = replayRefusal s first samples room in
-    cond (eqb code 0) (doneOf s first samples) (refusedOf s code (cond (eqb code 4) (firstBad samples) 0))
+    cond (eqb code 0) (doneOf s first samples) (refusedOf s code (placed code (firstBad (guardOf (s .state)) samples)))
 
 -- what the output list holds afterwards: "the first n places hold the outputs, every later place keeps its number"
 unfoldable pub writtenOf : Numbered → ℕ → List ℤ → List ℤ → List ℤ

@@ -70,7 +70,7 @@ impl Numbered {
         }
     }
 
-    // "Order: 10; first number 0 or at most last: 1; above last + 1: 3; 12; 13; then 4".
+    // "Order: 10; first number 0 or at most last: 1; above last + 1: 3; 12; 13; then 4", or 19.
     pub fn replay(self, first: u32, samples: &[i32], out: &mut [i32]) -> Replayed
         ensures { λ r. ⌜ r ≡ replayedOf self first (now (samples .entry)) (length (now (out .entry))) ⌝ }
         ensures { λ _. ⌜ now (out .exit) ≡ writtenOf self first (now (samples .entry)) (now (out .entry)) ⌝ }

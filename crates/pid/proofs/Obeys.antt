@@ -1,20 +1,24 @@
 -- What the plain law answers, case by case: the crates above look no further into it.
 use Prim.Native.Nat.{ℕ, _-_}
-use mathlib.Core.Path.{_≡_, refl}
+use mathlib.Core.Path.{_≡_, refl, _∙_}
 use mathlib.Core.Bool.{true, false}
 use native.Mathlib.Omega.{arith}
 use borrow.Author.Tests.{eq-eqb, ne-eqb}
+use mathlib.Core.List.{List, [], _∷_}
+use lib.Dec.{eqb}
 use lib.IntN.{ℤ, pos}
-use Rattle.whole.specs.Numbers.{inside}
+use Rattle.whole.specs.Numbers.{plus, inside}
 use Rattle.whole.proofs.Truth.{chosen}
 use Rattle.settings.specs.Table.{sets, inReach}
 use Rattle.temperature.specs.Temperature.{codeOf}
 use Rattle.temperature.proofs.Earliest.{one-of}
+use Rattle.command.specs.Sequence.{after}
 use Rattle.command.specs.declared.Command.{Command}
 use Rattle.command.specs.declared.Command.the-variants.{Sample, Hold, Put, Automatic, Target, Set}
 use Rattle.pid.specs.declared.record.Loop.{Loop}
 use Rattle.pid.specs.Record.{inRates, valid}
-use Rattle.pid.specs.Law.{guardOf, refusalOf, stepOf, lawOf}
+use Rattle.pid.specs.Law.{guardOf, sampleOf, refusalOf, stepOf, lawOf}
+use Rattle.pid.specs.Run.{obeyed}
 
 module _ (l : Loop) (c : Command) where
   pub obeys : valid l ≡ true → refusalOf l c ≡ 0 → lawOf l c ≡ record { code = 0; state = stepOf l c }
@@ -28,6 +32,21 @@ module _ (l : Loop) (c : Command) where
   pub breaks : valid l ≡ false → lawOf l c ≡ record { code = 10; state = l }
   unfolding lawOf
   breaks v = rw v
+
+-- no command changes the settings
+pub settings-stay : (l : Loop) (c : Command) → stepOf l c .settings ≡ l .settings
+unfolding stepOf sampleOf
+settings-stay l (Sample pv) = refl
+settings-stay l Hold = refl
+settings-stay l (Put x) = refl
+settings-stay l Automatic = chosen (λ (x : Loop). x .settings ≡ l .settings) (l .automatic) (λ _. refl) (λ _. refl)
+settings-stay l (Target t r) = refl
+settings-stay l (Set k) = chosen (λ (x : Loop). x .settings ≡ l .settings) (eqb (l .set) (plus k)) (λ _. refl) (λ _. refl)
+
+pub settings-after : (l : Loop) (cs : List Command) → obeyed l cs .settings ≡ l .settings
+unfolding after
+settings-after l [] = refl
+settings-after l (c ∷ cs) = settings-after (stepOf l c) cs ∙ settings-stay l c
 
 -- a sample is refused as its raw temperature is
 pub sample-code : (l : Loop) (pv : ℤ) → refusalOf l (Sample pv) ≡ codeOf (guardOf l) pv

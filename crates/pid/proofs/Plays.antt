@@ -1,20 +1,20 @@
 -- A list of samples under the plain law: it is done on what moves, and what is answered and written, code by code.
 use Prim.Native.Nat.{ℕ, _<_, _≤_}
-use mathlib.Core.Path.{_≡_, refl, ap, _∙_}
+use mathlib.Core.Path.{_≡_, refl, sym, ap, _∙_}
 use mathlib.Core.Bool.{true, false}
 use mathlib.Core.List.{List, [], _∷_, map}
 use native.Mathlib.Omega.{arith}
 use borrow.Author.Tests.{eq-eqb, eqb-true, eqb-false, ne-eqb, lt-ltb, le-ltb, ltb-false}
 use lib.Dec.{eqb, ltb}
-use lib.IntN.{ℤ}
-use lib.ListN.{length}
+use lib.IntN.{ℤ, pos}
+use lib.ListN.{length, take, getD}
 use Rattle.whole.specs.Numbers.{plus}
 use Rattle.whole.proofs.Truth.{by-test, zero-if, zero-else}
 use Rattle.window.specs.declared.Window.{Window}
 use Rattle.window.specs.Window.{taken, meanAt}
 use Rattle.temperature.specs.declared.Guard.{Guard}
-use Rattle.temperature.specs.Temperature.{past, firstBad, firstCode, ranged, rawAfter}
-use Rattle.temperature.proofs.Earliest.{code-none, either-bad}
+use Rattle.temperature.specs.Temperature.{codeOf, past, firstBad, firstCode, ranged, rawAfter}
+use Rattle.temperature.proofs.Earliest.{code-none, bad-on, bad-first, either-bad}
 use Rattle.temperature.proofs.Ranged.{all-ranged}
 use Rattle.window.proofs.Good.{means-ranged}
 use Rattle.window.specs.Means.{afterAll, meansOf, frontFilled}
@@ -70,6 +70,21 @@ good-first l pv pvs e =
 
 pub reads-length : (l : Loop) (pvs : List ℤ) → length (readsOf l pvs) ≡ length pvs
 reads-length l pvs = each-length taken (meanAt (plus (l .settings .mean))) (l .window) pvs
+
+-- after the samples before it, the law refuses the earliest bad one with its code
+pub bad-after : (l : Loop) (pvs : List ℤ) → (firstCode (guardOf l) pvs ≡ 0 → ⊥) →
+    refusalOf (afterSamples l (take (firstBad (guardOf l) pvs) pvs)) (Sample (getD pvs (firstBad (guardOf l) pvs) (pos 0))) ≡ firstCode (guardOf l) pvs
+unfolding after firstCode
+bad-after l [] h = absurd (h refl)
+bad-after l (pv ∷ pvs) h =
+    let g = guardOf l in
+    by-test (eqb (codeOf g pv) 0)
+    (λ t. let b = bad-on g pv pvs (eqb-true (codeOf g pv) 0 t) in
+    let n = guard-past l pv in
+    let e = ap (λ (x : Guard). firstCode x pvs) n in
+    let f = ap (λ (x : Guard). firstBad x pvs) n in
+    rw (b .0, ← f) (bad-after (sampled l pv) pvs (λ z. h (b .1 ∙ sym e ∙ z)) ∙ e ∙ sym (b .1)))
+    (λ t. let b = bad-first g pv pvs (eqb-false (codeOf g pv) 0 t) in rw (b .0) (sample-code l pv ∙ sym (b .1)))
 
 -- given as commands, they do the same
 pub after-commands : (l : Loop) (pvs : List ℤ) → after stepOf l (map Sample pvs) ≡ afterSamples l pvs

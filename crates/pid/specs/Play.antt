@@ -1,6 +1,6 @@
 -- A list of samples under the plain law, with a list whose front takes the outputs: what 01's replay stands on.
 use Prim.Native.Nat.{ℕ}
-use mathlib.Core.Bool.{cond, _||_}
+use mathlib.Core.Bool.{Bool, cond, _||_}
 use mathlib.Core.List.{List}
 use lib.Dec.{eqb, ltb}
 use lib.IntN.{ℤ}
@@ -43,8 +43,11 @@ abbrev pub refusedOf : Loop → ℕ → ℕ → Played
 refusedOf l code place = record { code = code; place = place; state = l }
 
 -- "for every code but 4 the place is 0", and 19 has its place as 4 has
+abbrev pub hasPlace : ℕ → Bool
+hasPlace code = eqb code 4 || eqb code 19
+
 abbrev pub placed : ℕ → ℕ → ℕ
-placed code place = cond (eqb code 4 || eqb code 19) place 0
+placed code place = cond (hasPlace code) place 0
 
 -- "the earliest bad sample is reported with its code and place" (02, request 8)
 unfoldable pub playedOf : Loop → List ℤ → ℕ → Played

@@ -8,7 +8,7 @@ use native.Mathlib.Omega.{arith}
 use borrow.Author.Tests.{eqb-true, eqb-false, eq-eqb, ne-eqb}
 use lib.Dec.{eqb}
 use lib.IntN.{ℤ, pos}
-use lib.ListN.{length, drop, getD}
+use lib.ListN.{length, take, drop, getD}
 use lib.Seq.{drop-cons, drop-length}
 use Rattle.whole.proofs.Truth.{by-test, chosen}
 use Rattle.settings.specs.Table.{inReach}
@@ -63,6 +63,17 @@ code-none g pv pvs e =
     by-test (eqb (codeOf g pv) 0)
     (λ t. let z = eqb-true (codeOf g pv) 0 t in (z, sym (bad-on g pv pvs z .1) ∙ e))
     (λ t. let n = eqb-false (codeOf g pv) 0 t in absurd (n (sym (bad-first g pv pvs n .1) ∙ e)))
+
+-- before the earliest bad one none is bad
+pub front-good : (g : Guard) (pvs : List ℤ) → firstCode g (take (firstBad g pvs) pvs) ≡ 0
+unfolding firstBad firstCode
+front-good g [] = refl
+front-good g (pv ∷ pvs) = go (eqb (codeOf g pv) 0) refl (front-good (past g pv) pvs)
+  where
+    go : (b : Bool) → eqb (codeOf g pv) 0 ≡ b → firstCode (past g pv) (take (firstBad (past g pv) pvs) pvs) ≡ 0 →
+        firstCode g (take (cond b (suc (firstBad (past g pv) pvs)) 0) (pv ∷ pvs)) ≡ 0
+    go true e rec = rw e rec
+    go false e rec = refl
 
 -- one turn of the loop over the samples, of which i are taken
 module _ (g : Guard) (pvs : List ℤ) (i : ℕ) (more : i < length pvs) where

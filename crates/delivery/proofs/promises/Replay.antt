@@ -7,16 +7,19 @@ use mathlib.Core.Bool.{true, false}
 use mathlib.Core.List.{List, [], _∷_, _++_, map}
 use native.Mathlib.Omega.{arith}
 use lib.IntN.{ℤ, pos}
-use lib.ListN.{length, drop, getD}
+use lib.ListN.{length, take, drop, getD}
 use Rattle.whole.specs.Numbers.{inside}
 use Rattle.whole.proofs.Truth.{both}
-use Rattle.settings.specs.Table.{rowsOf, inReach}
+use Rattle.settings.specs.Table.{rowsOf}
 use Rattle.settings.specs.Settings.{inTable}
 use Rattle.command.specs.declared.Command.the-variants.{Sample}
 use Rattle.settings.specs.SettingsC.{settingsC}
-use Rattle.window.proofs.Bad.{good-before, bad-at-place, all-good}
-use Rattle.window.specs.Means.{firstBad}
+use Rattle.temperature.specs.Temperature.{codeOf, firstBad, firstCode}
+use Rattle.temperature.proofs.Earliest.{front-good}
+use Rattle.temperature.proofs.promises.Jump.{codeAt, earliest, none-bad, all-good}
 use Rattle.pid.specs.Record.{freshOf, inB, valid}
+use Rattle.pid.specs.Law.{guardOf}
+use Rattle.pid.specs.Play.{hasPlace}
 use Rattle.command.specs.Sequence.{after, each}
 use Rattle.window.specs.Window.{freshWindow, windowOk}
 use Rattle.pid.proofs.Sound.{holds-of}
@@ -53,29 +56,36 @@ pub record Taken (s : Numbered) (first : ℕ) (samples : List ℤ) (room : ℕ) 
   pub number : first ≡ s .memory .number + 1
   pub places : length samples ≤ room
   pub numbers : length samples ≤ numbersLeft s
-  pub good : (i : ℕ) → i < length samples → inReach (getD samples i (pos 0)) ≡ true
+  pub good : (i : ℕ) → i < length samples → codeAt (guardOf (s .state)) samples i ≡ 0
 
 pub taken-only : (s : Numbered) (first : ℕ) (samples : List ℤ) (room : ℕ) → replayRefusal s first samples room ≡ 0 → Taken s first samples room
 taken-only s first samples room e =
     let a = accepted-of s first samples room e in
-    let g = a .good in
     record {
       rules = a .rules;
       number = a .next;
       places = a .long;
       numbers = a .numbers;
-      good = λ i h. good-before samples i (omega arith);
+      good = none-bad (guardOf (s .state)) samples (a .good);
     }
 
 pub taken-when : (s : Numbered) (first : ℕ) (samples : List ℤ) (room : ℕ) → Taken s first samples room → replayRefusal s first samples room ≡ 0
 taken-when s first samples room t =
     accepted-when s first samples room
-    (record { rules = t .rules; next = t .number; long = t .places; numbers = t .numbers; good = all-good samples (t .good) })
+    (record { rules = t .rules; next = t .number; long = t .places; numbers = t .numbers; good = all-good (guardOf (s .state)) samples (t .good) })
 
--- "then 4, with the place of the first bad sample"
-pub bad-place : (samples : List ℤ) → firstBad samples < length samples →
-    (inReach (getD samples (firstBad samples) (pos 0)) ≡ false) × ((i : ℕ) → i < firstBad samples → inReach (getD samples i (pos 0)) ≡ true)
-bad-place samples h = (bad-at-place samples h, good-before samples)
+-- "the earliest bad sample is reported with its code and place": delivered one by one, the samples before that place are kept, and the
+-- one at it is refused with that code
+pub record RefusedAt (s : Numbered) (first : ℕ) (samples : List ℤ) (code place : ℕ) : Type 0 where
+  pub there : place < length samples
+  pub before : keptOn s (numbered first (take place samples)) ≡ map Sample (take place samples)
+  pub here :
+      answered (recordAfter s first (take place samples)) (record { number = first + place; command = Sample (getD samples place (pos 0)) }) .code
+      ≡ code
+
+pub earliest-bad : (s : Numbered) (first : ℕ) (samples out : List ℤ) → hasPlace (replayedOf s first samples (length out) .code) ≡ true →
+    RefusedAt s first samples (replayedOf s first samples (length out) .code) (replayedOf s first samples (length out) .place)
+earliest-bad s first samples out h = ?
 
 -- "On a refusal neither record nor list changes, and the count is 0."
 pub refused-back : (s : Numbered) (first : ℕ) (samples out : List ℤ) → (replayedOf s first samples (length out) .code ≡ 0 → ⊥) →
@@ -110,7 +120,7 @@ sent-again s first samples out again e h =
 -- "No samples: done, nothing changes."
 pub no-samples : (s : Numbered) (out : List ℤ) → validOf s ≡ true →
     (replayedOf s (s .memory .number + 1) [] (length out) ≡ record { code = 0; place = 0; count = 0; state = s }) × (writtenOf s (s .memory .number + 1) [] out ≡ out)
-unfolding after each numbered firstBad
+unfolding after each numbered firstCode
 no-samples s out v =
     let n = s .memory .number + 1 in
     let d = done s n [] out (accepted-when s n [] (length out) (record { rules = v; next = refl; long = omega arith; numbers = omega arith; good = refl })) in
@@ -145,5 +155,5 @@ integral-within s first samples out v =
 
 -- a replay that is not refused
 pub taken-C : replayRefusal (newOf (freshOf settingsC)) 1 (pos 480 ∷ []) 1 ≡ 0
-unfolding replayRefusal firstBad freshWindow windowOk valid inTable rowsOf
+unfolding replayRefusal firstCode codeOf freshWindow windowOk valid inTable rowsOf
 taken-C = refl

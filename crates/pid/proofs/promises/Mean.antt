@@ -5,7 +5,7 @@ use mathlib.Core.Bool.{true, false}
 use lib.Dec.{eqb}
 use lib.IntN.{ℤ, pos}
 use Rattle.whole.specs.Numbers.{plus}
-use Rattle.whole.proofs.Truth.{chosen, push}
+use Rattle.whole.proofs.Truth.{push}
 use Rattle.settings.specs.declared.Settings.{Settings}
 use Rattle.settings.specs.Table.{farthest, rowsOf}
 use Rattle.settings.specs.Settings.{inTable}
@@ -22,6 +22,7 @@ use Rattle.pid.specs.Sample.{lesser, greater, limited, ramped, filtered,
 use Rattle.pid.specs.Law.{withMoving, fixedOf, movingOf, sampleOf, stepOf, refusalOf}
 use Rattle.pid.specs.Plain.{plainSampleOf, plainStepOf, windowless}
 use Rattle.pid.specs.Run.{obeyed}
+use Rattle.pid.proofs.Obeys.{settings-stay}
 
 -- ---- with mean 1 the law is the law without it
 
@@ -45,15 +46,6 @@ one-step l (Put x) e = refl
 one-step l Automatic e = push windowless (l .automatic) _ _
 one-step l (Target t r) e = refl
 one-step l (Set k) e = push windowless (eqb (l .set) (plus k)) _ _
-
-settings-stay : (l : Loop) (c : Command) → stepOf l c .settings ≡ l .settings
-unfolding stepOf sampleOf
-settings-stay l (Sample pv) = refl
-settings-stay l Hold = refl
-settings-stay l (Put x) = refl
-settings-stay l Automatic = chosen (λ (x : Loop). x .settings ≡ l .settings) (l .automatic) (λ _. refl) (λ _. refl)
-settings-stay l (Target t r) = refl
-settings-stay l (Set k) = chosen (λ (x : Loop). x .settings ≡ l .settings) (eqb (l .set) (plus k)) (λ _. refl) (λ _. refl)
 
 still-one : (l : Loop) (c : Command) → l .settings .mean ≡ pos 1 → stepOf l c .settings .mean ≡ pos 1
 still-one l c e = ap (λ (s : Settings). s .mean) (settings-stay l c) ∙ e
