@@ -48,7 +48,7 @@ rows-first h j m l =
 row-first : (h j : ℕ) → h ≤ heads → j < h → getD (picked h rows) j noRow ≡ getD rows j noRow
 row-first h j m l = row-at h j m ∙ rw (lt-ltb j h l)
 
--- the line after d rows begins with `kp0` where no more than these stand before the gain sets
+-- the line after d rows begins with `kp0` where d is how many stand before the gain sets
 next-line : (h d : ℕ) → Headed h → Headed d → (rs : List Row) (z : ℤ) (vs : List ℤ) (s : List ℕ) →
     begins (bytes "kp0") (linesOf (getD (picked h rows) d noRow ∷ rs) (z ∷ vs) ++ s) ≡ eqb h d
 unfolding rowsOf shown
@@ -96,7 +96,7 @@ module _ (h j : ℕ) (vs : List ℤ) (s : List ℕ) (a : Headed h) (l : j ≤ li
       let n : 0 < length (linesOf qs (drop m vs) ++ s) = simp length-append (omega (arith, lines-some qs (drop m vs) p, q)) in
       goes-on h (linesOf (take j (picked h rows)) vs ++ s) (rw (past m b) n)
 
-  -- the lines after rate and after mean tell how many rows stand before the gain sets, where the line after them tells it too
+  -- each line after rate tells by `kp0` whether the gain sets begin there; the one that is not right is to tell it too
   module _ (f : firsts ≤ j → j < heads → j ≤ h → begins (bytes "kp0") s ≡ eqb h j) where
     tells : (d : ℕ) → Headed d → d < heads → d ≤ h → d ≤ j → kp0After (linesOf (take j (picked h rows)) vs ++ s) d ≡ eqb h d
     tells d b m k g = ap (begins (bytes "kp0")) (past d g) ∙ by-test (eqb j d) here there
@@ -117,33 +117,36 @@ module _ (h j : ℕ) (vs : List ℤ) (s : List ℕ) (a : Headed h) (l : j ≤ li
             ap₂ (λ (qs : List Row) (ws : List ℤ). begins (bytes "kp0") (linesOf qs ws ++ s)) (n ∙ ap (λ (x : Row). x ∷ more) r) v
             ∙ next-line h d a b more (getD vs d (pos 0)) (drop (d + 1) vs) s
 
-    -- other rows than h the text is found to have only where it and h have line j + 1 among those before the gain sets
-    not-fewer : headsIn (linesOf (take j (picked h rows)) vs ++ s) < h → j < headsIn (linesOf (take j (picked h rows)) vs ++ s)
-    not-fewer k =
-        let text = linesOf (take j (picked h rows)) vs ++ s in
-        let d = headsIn text in
-        let m = headed h a .1 in
-        by-test (ltb j d) (ltb-true j d)
-        (λ t. never (sym (ne-eqb h d (λ z. omega arith)) ∙ sym (tells d (heads-in text) (omega arith) (omega arith) (ltb-false j d t)) ∙ kp0-there text (omega arith)))
-
-    not-more : h < headsIn (linesOf (take j (picked h rows)) vs ++ s) → j < h
-    not-more k =
-        let text = linesOf (take j (picked h rows)) vs ++ s in
-        let m = headed (headsIn text) (heads-in text) .1 in
-        by-test (ltb j h) (ltb-true j h)
-        (λ t. absurd (omega (arith, kp0-first text h a (tells h a (omega arith) (omega arith) (ltb-false j h t) ∙ eq-eqb h h refl))))
-
-    others : eqb (headsIn (linesOf (take j (picked h rows)) vs ++ s)) h ≡ false → (j < h) × (j < headsIn (linesOf (take j (picked h rows)) vs ++ s))
-    others t =
-        let d = headsIn (linesOf (take j (picked h rows)) vs ++ s) in
+    -- where the text is found to have other rows than h, line j + 1 stands before the gain sets in both forms
+    other-form : eqb (headsIn (linesOf (take j (picked h rows)) vs ++ s)) h ≡ false → (j < h) × (j < headsIn (linesOf (take j (picked h rows)) vs ++ s))
+    other-form t =
+        let p = eqb-false d h t in
         by-test (ltb d h)
-        (λ u. let k = ltb-true d h u in let m = not-fewer k in (omega arith, m))
-        (λ u. let k : h < d = omega (arith, eqb-false d h t, ltb-false d h u) in let m = not-more k in (m, omega arith))
+        (λ u. let m = fewer (ltb-true d h u) in (omega (arith, ltb-true d h u), m))
+        (λ u. let k : h < d = omega (arith, ltb-false d h u) in let m = more k in (m, omega arith))
+      where
+        text : List ℕ
+        text = linesOf (take j (picked h rows)) vs ++ s
+
+        d : ℕ
+        d = headsIn text
+
+        fewer : d < h → j < d
+        fewer k =
+            let m = headed h a .1 in
+            by-test (ltb j d) (ltb-true j d)
+            (λ u. never (sym (ne-eqb h d (λ z. omega arith)) ∙ sym (tells d (heads-in text) (omega arith) (omega arith) (ltb-false j d u)) ∙ kp0-there text (omega arith)))
+
+        more : h < d → j < h
+        more k =
+            let m = headed d (heads-in text) .1 in
+            by-test (ltb j h) (ltb-true j h)
+            (λ u. absurd (omega (arith, kp0-first text h a (tells h a (omega arith) (omega arith) (ltb-false j h u) ∙ eq-eqb h h refl))))
 
     heads-after : h ≤ j → headsIn (linesOf (take j (picked h rows)) vs ++ s) ≡ h
     heads-after b =
         let d = headsIn (linesOf (take j (picked h rows)) vs ++ s) in
-        by-test (eqb d h) (eqb-true d h) (λ t. absurd (omega (arith, others t)))
+        by-test (eqb d h) (eqb-true d h) (λ t. absurd (omega (arith, other-form t)))
 
   -- ---- a line that is not right: the text is refused there
 
@@ -188,7 +191,7 @@ first-wrong h j vs s a l e i form more f = by-test (eqb (headsIn (linesOf (take 
 
     other : eqb (headsIn (linesOf (take j (picked h rows)) vs ++ s)) h ≡ false → readText (linesOf (take j (picked h rows)) vs ++ s) ≡ refused (lineCode (getD (picked h rows) j noRow) s) (j + 1)
     other t =
-        let b = others h j vs s a (omega arith) e i form t in
+        let b = other-form h j vs s a (omega arith) e i form t in
         let text = linesOf (take j (picked h rows)) vs ++ s in
         let d = headsIn text in
         let c = heads-in text in
@@ -479,4 +482,7 @@ most-of b m n l = chosen (λ (k : ℕ). k ≤ m) b (λ _. omega arith) (λ _. l)
 pub text-most : (text : List ℕ) → readText text .code ≡ 0 → length text ≤ longestText
 text-most text e =
     let h = headsIn text in
-    omega (arith, form-most text e, most-of (eqb (setsIn h text) sets) 1044 306 (omega arith), most-of (ltb firsts h) 9 0 (omega arith), most-of (ltb (firsts + 1) h) 13 0 (omega arith))
+    let gains = most-of (eqb (setsIn h text) sets) 1044 306 (omega arith) in
+    let mean = most-of (ltb firsts h) 9 0 (omega arith) in
+    let jump = most-of (ltb (firsts + 1) h) 13 0 (omega arith) in
+    omega (arith, form-most text e)

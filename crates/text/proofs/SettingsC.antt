@@ -3,7 +3,6 @@ use Prim.Native.Nat.{ℕ}
 use mathlib.Core.Bool.{cond}
 use mathlib.Core.Path.{_≡_, refl, ap}
 use mathlib.Core.List.{List, _++_}
-use native.Mathlib.Omega.{arith}
 use lib.Dec.{eqb}
 use lib.IntN.{pos, negsuc}
 use lib.ListN.{length, replicate}
@@ -38,7 +37,7 @@ c-right = refl
 pub c-read : readText textC ≡ record { code = 0; line = 0; settings = settingsC }
 c-read = rw (← c-written) (form-read firsts shortSets settingsC neither-line short (said-of firsts shortSets settingsC neither-line short refl c-right (λ _. refl) (λ _. refl) (λ _. refl)))
 
--- each value at its widest; a text without the mean has 1
+-- each value at its widest; a text without mean has 1, and one without jump the widest
 abbrev widest : Gains
 widest = gainSet gain gain gain share share
 

@@ -43,7 +43,7 @@ pub data Gained : ℕ → Type 0 where
 unfoldable pub textFor : ℕ → ℕ → Settings → List ℕ
 textFor h n s = linesOf (picked h (rowsOf n)) (picked h (valuesOf s))
 
--- "Writing always gives 86 lines", and mean: "The writer always gives it"; and jump
+-- "Writing always gives 86 lines", and mean: "The writer always gives it"; as it does jump
 abbrev pub textOf : Settings → List ℕ
 textOf s = textFor heads sets s
 
