@@ -37,7 +37,7 @@ c-right = refl
 pub c-read : readText textC ≡ record { code = 0; line = 0; settings = settingsC }
 c-read = rw (← c-written) (form-read firsts shortSets settingsC neither-line short (said-of firsts shortSets settingsC neither-line short refl c-right (λ _. refl) (λ _. refl) (λ _. refl)))
 
--- each value at its widest; a text without mean has 1, and one without jump the widest
+-- each value at its widest, which of jump is also what a text without its line has; a text without mean has 1
 abbrev widest : Gains
 widest = gainSet gain gain gain share share
 

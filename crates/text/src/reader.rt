@@ -108,8 +108,8 @@ fn after_lines(text: &[u8], n: usize) -> &[u8]
     rest
 }
 
-// The rows before the gain sets whose lines a text is to have: "a text may have neither line, mean alone, or both", and the line
-// after the last of these begins with kp0.
+// The rows before the gain sets whose lines a text is to have: "a text may have neither line, mean alone, or both", by whether the
+// line after rate, or else that after mean, begins with kp0.
 fn heads_in(text: &[u8]) -> usize
     ensures { λ r. ⌜ r ≡ headsIn (now (text .entry)) ⌝ }
 {

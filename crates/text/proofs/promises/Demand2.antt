@@ -198,8 +198,8 @@ every-reading text = text-answer Answer done at-line at-end text
 
 -- Which it is, exactly. "Lines count from 1 and are tested in order, 14 before 15 in each": after j right lines, the first that
 -- is not has its code and its number. The line after rate is that of mean, and the line after mean that of jump, unless it
--- "begins with kp0". After line 26, 27 with mean, or 28 with mean and jump, the text is refused where a byte follows: "bytes
--- after line 26 that do not go on as line 27 are 14 there".
+-- "begins with kp0"; so where one of these is the wrong one, it begins so exactly if h is j. After line 26, 27 with mean, or 28
+-- with mean and jump, the text is refused where a byte follows: "bytes after line 26 that do not go on as line 27 are 14 there".
 pub first-wrong : (h j : ℕ) (vs : List ℤ) (s : List ℕ) → Headed h → j < linesFor h sets → length vs ≡ j → allIn (take j (picked h rows)) vs ≡ true →
     (firsts ≤ j → j < heads → j ≤ h → begins (bytes "kp0") s ≡ eqb h j) → (j ≡ linesFor h shortSets → 0 < length s) →
     let r = getD (picked h rows) j noRow in
