@@ -522,8 +522,6 @@ fn jumps() {
 
 // With mean and jump request 5's 26 and 27 are two more.
 fn jump_forms() {
-    read_made(b"28-lines-with-jump", Made::c(BOTH, true));
-    read_made(b"88-lines", Made::c(BOTH, false));
     cases(
         Made::c(BOTH, false),
         true,
@@ -537,7 +535,8 @@ fn jump_forms() {
     cases(
         Made::c(BOTH, true),
         false,
-        b"a-byte-after-line-28|29|x|\
+        b"28-lines-with-jump|28|kt3=0\n|\
+          a-byte-after-line-28|29|x|\
           line-29-too-large|29|kp4=4194305\n|\
           a-good-line-29|29|kp4=0\n|\
           jump-again-after-line-28|29|jump=5\n|\
@@ -546,7 +545,8 @@ fn jump_forms() {
     cases(
         Made::c(BOTH, false),
         false,
-        b"kt15-65537-with-jump|88|kt15=65537\n|\
+        b"88-lines|88|kt15=0\n|\
+          kt15-65537-with-jump|88|kt15=65537\n|\
           a-byte-after-line-88|88|kt15=0\nx|",
     );
 }
