@@ -189,11 +189,6 @@ fn say(name: &[u8], code: u8, n: usize) {
     io::write_all(STDOUT_FILENO, b"\n");
 }
 
-fn read(name: &[u8], bytes: &[u8]) {
-    let r = read_settings(bytes);
-    say(name, r.code, r.line);
-}
-
 fn reading_of(made: Made) -> Reading {
     let bytes = made.bytes;
     let len = made.len;
@@ -250,13 +245,13 @@ fn cases(text: Made, cut: bool, list: &[u8]) {
 
 // "Text that stops early is 14 at the line where it stops."
 fn early() {
-    read(b"empty", b"");
-    read(b"one-line-feed", b"\n");
-    read(b"one-byte", b"a");
     cases(
         Made::c(NEITHER, true),
         true,
-        b"stops-after-line-5|06||\
+        b"empty|01||\
+          one-line-feed|01|\n|\
+          one-byte|01|a|\
+          stops-after-line-5|06||\
           stops-after-line-1|02||\
           stops-after-line-25|26||\
           stops-in-a-key|06|rat|\
@@ -395,11 +390,11 @@ fn orders() {
 
 // "86 lines": each line after 26 is tested as those before it are.
 fn long_forms() {
-    read_made(b"86-lines", Made::c(NEITHER, false));
     cases(
         Made::c(NEITHER, false),
         true,
-        b"stops-after-line-26|27||\
+        b"86-lines|87||\
+          stops-after-line-26|27||\
           stops-after-line-27|28||\
           stops-after-line-31|32||\
           stops-after-line-85|86||\
@@ -457,11 +452,11 @@ fn means() {
 
 // "with the line request 5's 26 and 27 are one more"
 fn mean_forms() {
-    read_made(b"27-lines-with-mean", Made::c(MEAN, true));
     cases(
         Made::c(MEAN, false),
         true,
-        b"stops-after-line-6|07||\
+        b"87-lines|88||\
+          stops-after-line-6|07||\
           stops-in-mean|07|mean=1|\
           stops-after-mean|08||\
           stops-after-line-26-with-mean|27||\
@@ -525,7 +520,8 @@ fn jump_forms() {
     cases(
         Made::c(BOTH, false),
         true,
-        b"stops-in-jump|08|jump=5|\
+        b"88-lines|89||\
+          stops-in-jump|08|jump=5|\
           stops-after-jump|09||\
           stops-after-line-27-with-jump|28||\
           stops-after-line-28-with-jump|29||\
@@ -535,8 +531,7 @@ fn jump_forms() {
     cases(
         Made::c(BOTH, true),
         false,
-        b"28-lines-with-jump|28|kt3=0\n|\
-          a-byte-after-line-28|29|x|\
+        b"a-byte-after-line-28|29|x|\
           line-29-too-large|29|kp4=4194305\n|\
           a-good-line-29|29|kp4=0\n|\
           jump-again-after-line-28|29|jump=5\n|\
@@ -545,8 +540,7 @@ fn jump_forms() {
     cases(
         Made::c(BOTH, false),
         false,
-        b"88-lines|88|kt15=0\n|\
-          kt15-65537-with-jump|88|kt15=65537\n|\
+        b"kt15-65537-with-jump|88|kt15=65537\n|\
           a-byte-after-line-88|88|kt15=0\nx|",
     );
 }
@@ -560,7 +554,8 @@ fn edges(kp0: usize, short: bool, most: &[u8], level: &[u8], more: &[u8]) {
 
 fn lengths() {
     let many = [b'a'; 4096];
-    read(b"4096-bytes-and-no-line-feed", &many);
+    let r = read_settings(&many);
+    say(b"4096-bytes-and-no-line-feed", r.code, r.line);
     edges(BOTH, false, b"1066-bytes", b"1067-bytes", b"1068-bytes");
     edges(MEAN, false, b"1053-bytes", b"1054-bytes", b"1055-bytes");
     edges(NEITHER, false, b"1044-bytes", b"1045-bytes", b"1046-bytes");
