@@ -2,20 +2,20 @@
 -- text is refused.
 use Prim.Native.Nat.{ℕ, _+_, _-_, _*_, _<_, _≤_}
 use mathlib.Core.Path.{_≡_, refl, sym, ap, ap₂, subst, _∙_}
-use mathlib.Core.Bool.{true, false}
+use mathlib.Core.Bool.{Bool, true, false, cond}
 use mathlib.Core.List.{List, [], _∷_, _++_, append-nil}
 use native.Mathlib.Omega.{arith}
-use borrow.Author.Tests.{lt-ltb, ltb-true, ltb-false, eqb-true, eqb-false}
+use borrow.Author.Tests.{lt-ltb, ltb-true, ltb-false, eq-eqb, ne-eqb, eqb-true, eqb-false}
 use lib.Dec.{ltb, eqb}
 use lib.IntN.{ℤ, pos}
 use lib.ListN.{length, getD, take, drop, replicate, length-append, length-drop, take-append-drop, drop-of-length-le}
 use lib.Seq.{take-append-le, length-take-le, take-all, take-take, take-at, drop-append-le, drop-drop, getD-take}
 use Rattle.whole.specs.Words.{bytes}
-use Rattle.whole.proofs.Truth.{by-test}
+use Rattle.whole.proofs.Truth.{never, chosen, by-test}
 use Rattle.whole.proofs.Lists.{next}
 use Rattle.settings.specs.declared.table.Row.{Row}
 use Rattle.settings.specs.declared.Settings.{Settings}
-use Rattle.settings.specs.Table.{laterRows, each, firsts, heads, keys, sets, shortSets, linesFor, rowsOf, rows, picked, noRow}
+use Rattle.settings.specs.Table.{farthest, laterRows, each, firsts, heads, keys, sets, shortSets, linesFor, rowsOf, rows, picked, noRow}
 use Rattle.settings.specs.Settings.{gainsAt, gainsFrom, gainValues, allIn, inTable, settingsRefusal, valuesOf, settingsOf, absent, completed, filled}
 use Rattle.settings.proofs.Lists.{all, all-take}
 use Rattle.settings.proofs.Rows.{rows-long, rows-parts, values-long}
@@ -25,11 +25,11 @@ use Rattle.settings.proofs.Forms.{picked-long, take-picked, drop-picked, picked
 use Rattle.word.specs.Decimal.{shown}
 use Rattle.word.specs.End.{begins}
 use Rattle.text.specs.declared.reader.Reading.{Reading}
-use Rattle.text.specs.Lines.{linesOf, Headed, with-mean, no-mean, Gained, full, short, textFor, textOf, longestFor, longestText}
+use Rattle.text.specs.Lines.{linesOf, Headed, both-lines, mean-alone, neither-line, Gained, full, short, textFor, textOf, longestFor, longestText}
 use Rattle.text.specs.Reader.{ended, lineCode, afterLines, refused, readEnd, readFrom, headsIn, setsIn, readText}
 use Rattle.text.proofs.Rows.{lined, form-long, form-lined, form-next, form-parts, form-at, row-at, text-whole, headed, gained}
 use Rattle.text.proofs.Writes.{sound, sound-long}
-use Rattle.text.proofs.Texts.{mean-absent, mean-there, heads-in, goes-on, ends-short, sets-in, read-with, end-yes, end-taken, lines-done, line-refused}
+use Rattle.text.proofs.Texts.{kp0After, heads-in, kp0-there, kp0-first, goes-on, ends-short, sets-in, read-with, end-yes, end-taken, lines-done, line-refused}
 use Rattle.text.proofs.Trip.{lines-read, lines-past, valuesIn, lines-back, valued, lines-split, lines-front, front-in, lines-some}
 
 -- ---- the first lines of a text
@@ -48,16 +48,19 @@ rows-first h j m l =
 row-first : (h j : ℕ) → h ≤ heads → j < h → getD (picked h rows) j noRow ≡ getD rows j noRow
 row-first h j m l = row-at h j m ∙ rw (lt-ltb j h l)
 
--- the line after those begins with `kp0` where there is no mean
-next-line : (h : ℕ) → Headed h → (rs : List Row) (z : ℤ) (vs : List ℤ) (s : List ℕ) →
-    begins (bytes "kp0") (linesOf (getD (picked h rows) firsts noRow ∷ rs) (z ∷ vs) ++ s) ≡ eqb h firsts
+-- the line after d rows begins with `kp0` where d is how many stand before the gain sets
+next-line : (h d : ℕ) → Headed h → Headed d → (rs : List Row) (z : ℤ) (vs : List ℤ) (s : List ℕ) →
+    begins (bytes "kp0") (linesOf (getD (picked h rows) d noRow ∷ rs) (z ∷ vs) ++ s) ≡ eqb h d
 unfolding rowsOf shown
-next-line h with-mean rs z vs s = refl
-next-line h no-mean rs z vs s = refl
-
-heads-said : (h : ℕ) (text : List ℕ) → Headed h → begins (bytes "kp0") (afterLines firsts text) ≡ eqb h firsts → headsIn text ≡ h
-heads-said h text with-mean e = mean-there text e
-heads-said h text no-mean e = mean-absent text e
+next-line h d both-lines both-lines rs z vs s = refl
+next-line h d both-lines mean-alone rs z vs s = refl
+next-line h d both-lines neither-line rs z vs s = refl
+next-line h d mean-alone both-lines rs z vs s = refl
+next-line h d mean-alone mean-alone rs z vs s = refl
+next-line h d mean-alone neither-line rs z vs s = refl
+next-line h d neither-line both-lines rs z vs s = refl
+next-line h d neither-line mean-alone rs z vs s = refl
+next-line h d neither-line neither-line rs z vs s = refl
 
 -- right lines of the first j rows, with what follows
 module _ (h j : ℕ) (vs : List ℤ) (s : List ℕ) (a : Headed h) (l : j ≤ linesFor h sets) (e : length vs ≡ j) (i : allIn (take j (picked h rows)) vs ≡ true) where
@@ -93,25 +96,57 @@ module _ (h j : ℕ) (vs : List ℤ) (s : List ℕ) (a : Headed h) (l : j ≤ li
       let n : 0 < length (linesOf qs (drop m vs) ++ s) = simp length-append (omega (arith, lines-some qs (drop m vs) p, q)) in
       goes-on h (linesOf (take j (picked h rows)) vs ++ s) (rw (past m b) n)
 
-  -- the line after rate tells whether there is a mean
-  heads-after : firsts ≤ j → (j ≡ firsts → begins (bytes "kp0") s ≡ eqb h firsts) → headsIn (linesOf (take j (picked h rows)) vs ++ s) ≡ h
-  heads-after b f = heads-said h (linesOf (take j (picked h rows)) vs ++ s) a (ap (begins (bytes "kp0")) (past firsts b) ∙ by-test (eqb j firsts) here there)
-    where
-      here : eqb j firsts ≡ true → begins (bytes "kp0") (linesOf (drop firsts (take j (picked h rows))) (drop firsts vs) ++ s) ≡ eqb h firsts
-      here t =
-          let p = eqb-true j firsts t in
-          let q : drop firsts (take j (picked h rows)) ≡ [] = drop-of-length-le (take j (picked h rows)) {i = firsts} (omega (arith, front-long)) in
-          ap (λ (qs : List Row). begins (bytes "kp0") (linesOf qs (drop firsts vs) ++ s)) q ∙ f p
+  -- each line after rate tells by `kp0` whether the gain sets begin there; the one that is not right is to tell it too
+  module _ (f : firsts ≤ j → j < heads → j ≤ h → begins (bytes "kp0") s ≡ eqb h j) where
+    tells : (d : ℕ) → Headed d → d < heads → d ≤ h → d ≤ j → kp0After (linesOf (take j (picked h rows)) vs ++ s) d ≡ eqb h d
+    tells d b m k g = ap (begins (bytes "kp0")) (past d g) ∙ by-test (eqb j d) here there
+      where
+        here : eqb j d ≡ true → begins (bytes "kp0") (linesOf (drop d (take j (picked h rows))) (drop d vs) ++ s) ≡ eqb h d
+        here t =
+            let p = eqb-true j d t in
+            let q : drop d (take j (picked h rows)) ≡ [] = drop-of-length-le (take j (picked h rows)) {i = d} (omega (arith, front-long)) in
+            ap (λ (qs : List Row). begins (bytes "kp0") (linesOf qs (drop d vs) ++ s)) q ∙ f (omega (arith, headed d b)) (omega arith) (omega arith) ∙ ap (eqb h) p
 
-      there : eqb j firsts ≡ false → begins (bytes "kp0") (linesOf (drop firsts (take j (picked h rows))) (drop firsts vs) ++ s) ≡ eqb h firsts
-      there t =
-          let p = eqb-false j firsts t in
-          let n = next (take j (picked h rows)) firsts noRow (omega (arith, front-long)) in
-          let r = getD-take j (picked h rows) firsts noRow (omega arith) in
-          let v = next vs firsts (pos 0) (omega arith) in
-          let more = drop (firsts + 1) (take j (picked h rows)) in
-          ap₂ (λ (qs : List Row) (ws : List ℤ). begins (bytes "kp0") (linesOf qs ws ++ s)) (n ∙ ap (λ (x : Row). x ∷ more) r) v
-          ∙ next-line h a more (getD vs firsts (pos 0)) (drop (firsts + 1) vs) s
+        there : eqb j d ≡ false → begins (bytes "kp0") (linesOf (drop d (take j (picked h rows))) (drop d vs) ++ s) ≡ eqb h d
+        there t =
+            let p = eqb-false j d t in
+            let n = next (take j (picked h rows)) d noRow (omega (arith, front-long)) in
+            let r = getD-take j (picked h rows) d noRow (omega arith) in
+            let v = next vs d (pos 0) (omega arith) in
+            let more = drop (d + 1) (take j (picked h rows)) in
+            ap₂ (λ (qs : List Row) (ws : List ℤ). begins (bytes "kp0") (linesOf qs ws ++ s)) (n ∙ ap (λ (x : Row). x ∷ more) r) v
+            ∙ next-line h d a b more (getD vs d (pos 0)) (drop (d + 1) vs) s
+
+    -- where the text is found to have other rows than h, line j + 1 stands before the gain sets in both forms
+    other-form : eqb (headsIn (linesOf (take j (picked h rows)) vs ++ s)) h ≡ false → (j < h) × (j < headsIn (linesOf (take j (picked h rows)) vs ++ s))
+    other-form t =
+        let p = eqb-false d h t in
+        by-test (ltb d h)
+        (λ u. let m = fewer (ltb-true d h u) in (omega (arith, ltb-true d h u), m))
+        (λ u. let k : h < d = omega (arith, ltb-false d h u) in let m = more k in (m, omega arith))
+      where
+        text : List ℕ
+        text = linesOf (take j (picked h rows)) vs ++ s
+
+        d : ℕ
+        d = headsIn text
+
+        fewer : d < h → j < d
+        fewer k =
+            let m = headed h a .1 in
+            by-test (ltb j d) (ltb-true j d)
+            (λ u. never (sym (ne-eqb h d (λ z. omega arith)) ∙ sym (tells d (heads-in text) (omega arith) (omega arith) (ltb-false j d u)) ∙ kp0-there text (omega arith)))
+
+        more : h < d → j < h
+        more k =
+            let m = headed d (heads-in text) .1 in
+            by-test (ltb j h) (ltb-true j h)
+            (λ u. absurd (omega (arith, kp0-first text h a (tells h a (omega arith) (omega arith) (ltb-false j h u) ∙ eq-eqb h h refl))))
+
+    heads-after : h ≤ j → headsIn (linesOf (take j (picked h rows)) vs ++ s) ≡ h
+    heads-after b =
+        let d = headsIn (linesOf (take j (picked h rows)) vs ++ s) in
+        by-test (eqb d h) (eqb-true d h) (λ t. absurd (omega (arith, other-form t)))
 
   -- ---- a line that is not right: the text is refused there
 
@@ -143,19 +178,20 @@ module _ (h j : ℕ) (vs : List ℤ) (s : List ℕ) (a : Headed h) (l : j ≤ li
           (λ t. omega (arith, ltb-true j (linesFor h shortSets) t, g, gained _ (sets-in h (linesOf (take j (picked h rows)) vs ++ s)) .0))
           (λ t. let c = ltb-false j (linesFor h shortSets) t in omega (arith, g, on-after c (some c)))
 
--- line 7 is that of the gain sets where it begins with `kp0`, else that of mean; the lines before it are the same in every text
+-- the line after rate, and that after mean, is the first of the gain sets where it begins with `kp0`; the lines before are the same
+-- in every text
 pub first-wrong : (h j : ℕ) (vs : List ℤ) (s : List ℕ) → Headed h → j < linesFor h sets → length vs ≡ j → allIn (take j (picked h rows)) vs ≡ true →
-    (j ≡ firsts → begins (bytes "kp0") s ≡ eqb h firsts) → (j ≡ linesFor h shortSets → 0 < length s) →
+    (firsts ≤ j → j < heads → j ≤ h → begins (bytes "kp0") s ≡ eqb h j) → (j ≡ linesFor h shortSets → 0 < length s) →
     let r = getD (picked h rows) j noRow in
     (lineCode r s ≡ 0 → ⊥) → readText (linesOf (take j (picked h rows)) vs ++ s) ≡ refused (lineCode r s) (j + 1)
-first-wrong h j vs s a l e i mean more f = by-test (ltb j firsts) early late
+first-wrong h j vs s a l e i form more f = by-test (eqb (headsIn (linesOf (take j (picked h rows)) vs ++ s)) h) same other
   where
-    late : ltb j firsts ≡ false → readText (linesOf (take j (picked h rows)) vs ++ s) ≡ refused (lineCode (getD (picked h rows) j noRow) s) (j + 1)
-    late t = wrong-line h j vs s a (omega arith) e i (heads-after h j vs s a (omega arith) e i (ltb-false j firsts t) mean) l more f
+    same : eqb (headsIn (linesOf (take j (picked h rows)) vs ++ s)) h ≡ true → readText (linesOf (take j (picked h rows)) vs ++ s) ≡ refused (lineCode (getD (picked h rows) j noRow) s) (j + 1)
+    same t = wrong-line h j vs s a (omega arith) e i (eqb-true _ h t) l more f
 
-    early : ltb j firsts ≡ true → readText (linesOf (take j (picked h rows)) vs ++ s) ≡ refused (lineCode (getD (picked h rows) j noRow) s) (j + 1)
-    early t =
-        let b = ltb-true j firsts t in
+    other : eqb (headsIn (linesOf (take j (picked h rows)) vs ++ s)) h ≡ false → readText (linesOf (take j (picked h rows)) vs ++ s) ≡ refused (lineCode (getD (picked h rows) j noRow) s) (j + 1)
+    other t =
+        let b = other-form h j vs s a (omega arith) e i form t in
         let text = linesOf (take j (picked h rows)) vs ++ s in
         let d = headsIn text in
         let c = heads-in text in
@@ -173,15 +209,17 @@ first-wrong h j vs s a l e i mean more f = by-test (ltb j firsts) early late
 pub text-stops : (h j : ℕ) (vs : List ℤ) → Headed h → j < linesFor h sets → (j ≡ linesFor h shortSets → ⊥) → length vs ≡ j → allIn (take j (picked h rows)) vs ≡ true →
     readText (linesOf (take j (picked h rows)) vs) ≡ refused 14 (j + 1)
 unfolding lineCode ended
-text-stops h j vs a l f e i = by-test (eqb j firsts)
-    (λ t. let b = eqb-true j firsts t in
+text-stops h j vs a l f e i = by-test (ltb h j)
+    (λ t. let b = ltb-true h j t in
+    ap readText (sym (append-nil (linesOf (take j (picked h rows)) vs)))
+    ∙ first-wrong h j vs [] a l e i (λ _ _ k. absurd (omega arith)) (λ z. absurd (f z)) (λ z. omega arith))
+    (λ t. let b = ltb-false h j t in
     let n = headed h a in
-    let p : take j (picked h rows) ≡ take j (picked heads rows) = rows-first h j (n .1) (omega arith) ∙ sym (rows-first heads j (omega arith) (omega arith)) in
+    let p : take j (picked h rows) ≡ take j (picked heads rows) = rows-first h j (n .1) b ∙ sym (rows-first heads j (omega arith) (omega arith)) in
     ap (λ (rs : List Row). readText (linesOf rs vs)) p
     ∙ ap readText (sym (append-nil (linesOf (take j (picked heads rows)) vs)))
-    ∙ first-wrong heads j vs [] with-mean (omega arith) e (ap (λ (rs : List Row). allIn rs vs) (sym p) ∙ i) (λ _. refl) (λ z. absurd (omega arith)) (λ z. omega arith))
-    (λ t. ap readText (sym (append-nil (linesOf (take j (picked h rows)) vs)))
-    ∙ first-wrong h j vs [] a l e i (λ z. absurd (eqb-false j firsts t z)) (λ z. absurd (f z)) (λ z. omega arith))
+    ∙ first-wrong heads j vs [] both-lines (omega arith) e (ap (λ (rs : List Row). allIn rs vs) (sym p) ∙ i) (λ _ k _. sym (ne-eqb heads j (λ z. omega arith))) (λ z. absurd (omega arith))
+    (λ z. omega arith))
 
 -- ---- all lines right: what is left decides
 
@@ -197,7 +235,7 @@ all-right h n vs s a b none e i =
     let w : allIn (take j (picked h rows)) vs ≡ true = ap (λ (rs : List Row). allIn rs vs) p ∙ i in
     let text = linesOf (take j (picked h rows)) vs ++ s in
     ap (λ (rs : List Row). readText (linesOf rs vs ++ s)) (sym p)
-    ∙ read-with h n text (heads-after h j vs s a l e w (omega (arith, headed h a)) (λ z. absurd (omega (arith, headed h a)))) (ends n b none e l w)
+    ∙ read-with h n text (heads-after h j vs s a l e w (λ _ m _. absurd (omega (arith, headed h a, gained n b))) (omega arith)) (ends n b none e l w)
     ∙ first-lines h j vs s a l e w n (k .1) (omega arith)
     ∙ lines-done h n (j + 1) vs s j m (omega arith)
   where
@@ -299,13 +337,16 @@ missing-sets {h} {n} s b t k l m =
 -- ---- which settings a text of a form can have
 
 module _ (h n : ℕ) (s : Settings) where
-  -- where it leaves the mean out this is 1, and where it ends after set 3, set 0 stands for the sets after it
-  pub said-of : Headed h → Gained n → length (s .gains) ≡ sets → settingsRefusal s ≡ 0 → (h ≡ firsts → s .mean ≡ pos 1) → (n ≡ shortSets → filled shortSets s ≡ s) → Said h n s
-  said-of a b g e mean gain = record { sixteen = g; right = e; head = heading h a mean; gain = gaining n b gain }
+  -- where it leaves the mean out this is 1, where it leaves the jump out this is 2,000,000, and where it ends after set 3, set 0
+  -- stands for the sets after it
+  pub said-of : Headed h → Gained n → length (s .gains) ≡ sets → settingsRefusal s ≡ 0 →
+      (h ≡ firsts → s .mean ≡ pos 1) → (h < heads → s .jump ≡ pos farthest) → (n ≡ shortSets → filled shortSets s ≡ s) → Said h n s
+  said-of a b g e mean jump gain = record { sixteen = g; right = e; head = heading h a mean jump; gain = gaining n b gain }
     where
-      heading : (h : ℕ) → Headed h → (h ≡ firsts → s .mean ≡ pos 1) → completed h (picked h (valuesOf s)) ≡ valuesOf s
-      heading h with-mean f = refl
-      heading h no-mean f = sym (ap (λ (z : ℤ). take firsts (valuesOf s) ++ (z ∷ drop heads (valuesOf s))) (f refl))
+      heading : (h : ℕ) → Headed h → (h ≡ firsts → s .mean ≡ pos 1) → (h < heads → s .jump ≡ pos farthest) → completed h (picked h (valuesOf s)) ≡ valuesOf s
+      heading h both-lines f g = refl
+      heading h mean-alone f g = sym (ap (λ (z : ℤ). take (firsts + 1) (valuesOf s) ++ (z ∷ drop heads (valuesOf s))) (g (omega arith)))
+      heading h neither-line f g = sym (ap₂ (λ (y z : ℤ). take firsts (valuesOf s) ++ (y ∷ z ∷ drop heads (valuesOf s))) (f refl) (g (omega arith)))
 
       gaining : (n : ℕ) → Gained n → (n ≡ shortSets → filled shortSets s ≡ s) → filled n s ≡ s
       gaining n full f = filled-all s g
@@ -316,12 +357,20 @@ module _ (h n : ℕ) (s : Settings) where
   said-mean t p =
       sym (ap (λ (k : ℕ). getD (completed k (picked k (valuesOf s))) firsts (pos 0)) (sym p) ∙ ap (λ (vs : List ℤ). getD vs firsts (pos 0)) (t .head))
 
+  pub said-jump : Headed h → Said h n s → h < heads → s .jump ≡ pos farthest
+  said-jump a t l = sym (ap (λ (vs : List ℤ). getD vs (firsts + 1) (pos 0)) (t .head)) ∙ left h a l
+    where
+      left : (h : ℕ) → Headed h → h < heads → getD (completed h (picked h (valuesOf s))) (firsts + 1) (pos 0) ≡ pos farthest
+      left h both-lines l = absurd (omega arith)
+      left h mean-alone l = refl
+      left h neither-line l = refl
+
   pub said-gains : Said h n s → n ≡ shortSets → filled shortSets s ≡ s
   said-gains t p = ap (λ (k : ℕ). filled k s) (sym p) ∙ t .gain
 
 -- the writer's text leaves nothing out
 pub full-read : (s : Settings) → length (s .gains) ≡ sets → settingsRefusal s ≡ 0 → readText (textOf s) ≡ record { code = 0; line = 0; settings = s }
-full-read s g e = form-read heads sets s with-mean full (said-of heads sets s with-mean full g e (λ z. absurd (omega arith)) (λ z. absurd (omega arith)))
+full-read s g e = form-read heads sets s both-lines full (said-of heads sets s both-lines full g e (λ z. absurd (omega arith)) (λ l. absurd (omega arith)) (λ z. absurd (omega arith)))
 
 -- ---- the writer's text of these settings
 
@@ -376,12 +425,14 @@ module _ (h n : ℕ) (s : Settings) (a : Headed h) (b : Gained n) (t : Said h n 
   -- what a form leaves out before the gain sets
   left-rows : (h : ℕ) → Headed h → take (heads - h) (drop h rows) ≡ drop (h - firsts) laterRows
   unfolding rowsOf
-  left-rows h with-mean = refl
-  left-rows h no-mean = refl
+  left-rows h both-lines = refl
+  left-rows h mean-alone = refl
+  left-rows h neither-line = refl
 
   left-values : (h : ℕ) → Headed h → Said h n s → take (heads - h) (drop h (valuesOf s)) ≡ drop (h - firsts) absent
-  left-values h with-mean t = refl
-  left-values h no-mean t = ap (λ (z : ℤ). z ∷ []) (said-mean firsts n s t refl)
+  left-values h both-lines t = refl
+  left-values h mean-alone t = ap (λ (z : ℤ). z ∷ []) (said-jump (firsts + 1) n s mean-alone t (omega arith))
+  left-values h neither-line t = ap₂ (λ (y z : ℤ). y ∷ z ∷ []) (said-mean firsts n s t refl) (said-jump firsts n s neither-line t (omega arith))
 
   -- and after set n
   sets-apart : linesOf (drop heads rows) (drop heads (valuesOf s)) ≡ setLines n s ++ otherLines n s
@@ -425,13 +476,13 @@ form-most text e =
     let l = sound-long h n s (heads-in text) (sets-in h text) (t .said .sixteen) (t .said .right) in
     omega (arith, l, ap length (t .same))
 
-most-of : (h n : ℕ) → Headed h → Gained n → longestFor h n ≤ longestText
-most-of h n with-mean full = omega arith
-most-of h n with-mean short = omega arith
-most-of h n no-mean full = omega arith
-most-of h n no-mean short = omega arith
+most-of : (b : Bool) (m n : ℕ) → n ≤ m → cond b m n ≤ m
+most-of b m n l = chosen (λ (k : ℕ). k ≤ m) b (λ _. omega arith) (λ _. l)
 
 pub text-most : (text : List ℕ) → readText text .code ≡ 0 → length text ≤ longestText
 text-most text e =
     let h = headsIn text in
-    omega (arith, form-most text e, most-of h (setsIn h text) (heads-in text) (sets-in h text))
+    let gains = most-of (eqb (setsIn h text) sets) 1044 306 (omega arith) in
+    let mean = most-of (ltb firsts h) 9 0 (omega arith) in
+    let jump = most-of (ltb (firsts + 1) h) 13 0 (omega arith) in
+    omega (arith, form-most text e)

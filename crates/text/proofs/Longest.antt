@@ -22,7 +22,7 @@ use Rattle.settings.proofs.Ranges.{all-at, rows-front}
 use Rattle.settings.proofs.Forms.{rows-picked, picked-in}
 use Rattle.word.specs.Decimal.{shown, decimal}
 use Rattle.word.proofs.Widths.{width}
-use Rattle.text.specs.Lines.{keyOf, linesOf, Headed, with-mean, no-mean, Gained, full, short, textFor, longestFor}
+use Rattle.text.specs.Lines.{keyOf, linesOf, Headed, both-lines, mean-alone, neither-line, Gained, full, short, textFor, longestLater, longestFor}
 use Rattle.text.proofs.Rows.{lettered, gains-lettered, key-numbered, headed}
 
 -- ---- lines
@@ -97,10 +97,11 @@ hiRow = record {
 }
 
 -- with the lines of h rows before the gain sets
-heads-longest : (h : ℕ) (rs : List Row) → Headed h → longestOf (set (take h headRows ++ rs) 2 hiRow) ≡ 70 + 9 * (h - firsts) + longestOf rs
+heads-longest : (h : ℕ) (rs : List Row) → Headed h → longestOf (set (take h headRows ++ rs) 2 hiRow) ≡ 70 + longestLater h + longestOf rs
 unfolding shown
-heads-longest h rs with-mean = longest-both (set headRows 2 hiRow) rs
-heads-longest h rs no-mean = longest-both (set firstRows 2 hiRow) rs
+heads-longest h rs both-lines = longest-both (set headRows 2 hiRow) rs
+heads-longest h rs mean-alone = longest-both (set (take (firsts + 1) headRows) 2 hiRow) rs
+heads-longest h rs neither-line = longest-both (set firstRows 2 hiRow) rs
 
 -- ---- the text
 
@@ -124,16 +125,18 @@ module _ (h n : ℕ) (s : Settings) (a : Headed h) (m : n ≤ sets) (g : length 
       and (above (getD headRows 1 noRow .2) (s .lo) (s .hi) lo-least lower) hi-most
 
   hi-at : (h : ℕ) → Headed h → getD (picked h (valuesOf s)) 2 (pos 0) ≡ s .hi
-  hi-at h with-mean = refl
-  hi-at h no-mean = refl
+  hi-at h both-lines = refl
+  hi-at h mean-alone = refl
+  hi-at h neither-line = refl
 
   -- the line of hi is the same
   hi-line : (h : ℕ) → Headed h → linesOf (set (picked h (rowsOf n)) 2 hiRow) (picked h (valuesOf s)) ≡ linesOf (picked h (rowsOf n)) (picked h (valuesOf s))
   unfolding rowsOf
-  hi-line h with-mean = refl
-  hi-line h no-mean = refl
+  hi-line h both-lines = refl
+  hi-line h mean-alone = refl
+  hi-line h neither-line = refl
 
-  lines-most : length (textFor h n s) ≤ 70 + 9 * (h - firsts) + (54 * n + keys * digitsFrom 0 n)
+  lines-most : length (textFor h n s) ≤ 70 + longestLater h + (54 * n + keys * digitsFrom 0 n)
   unfolding textFor
   lines-most =
       let rs = picked h (rowsOf n) in

@@ -25,7 +25,7 @@ use Rattle.word.specs.End.{feed}
 use Rattle.word.proofs.Words.{without, without-both}
 use Rattle.word.proofs.Digits.{digit}
 use Rattle.word.proofs.Decimals.{shown-form}
-use Rattle.text.specs.Lines.{keyOf, lineOf, linesOf, Headed, with-mean, no-mean, Gained, full, short, textFor, textOf}
+use Rattle.text.specs.Lines.{keyOf, lineOf, linesOf, Headed, both-lines, mean-alone, neither-line, Gained, full, short, textFor, textOf}
 
 -- ---- bytes without a line feed
 
@@ -188,8 +188,9 @@ text-whole s = ap₂ linesOf (picked-all rows) (picked-all (valuesOf s))
 -- ---- the forms
 
 pub headed : (h : ℕ) → Headed h → (firsts ≤ h) × (h ≤ heads)
-headed h with-mean = (omega arith, omega arith)
-headed h no-mean = (omega arith, omega arith)
+headed h both-lines = (omega arith, omega arith)
+headed h mean-alone = (omega arith, omega arith)
+headed h neither-line = (omega arith, omega arith)
 
 pub gained : (n : ℕ) → Gained n → (shortSets ≤ n) × (n ≤ sets)
 gained n full = (omega arith, omega arith)

@@ -3,19 +3,18 @@ use Prim.Native.Nat.{ℕ}
 use mathlib.Core.Bool.{cond}
 use mathlib.Core.Path.{_≡_, refl, ap}
 use mathlib.Core.List.{List, _++_}
-use native.Mathlib.Omega.{arith}
 use lib.Dec.{eqb}
 use lib.IntN.{pos, negsuc}
 use lib.ListN.{length, replicate}
 use Rattle.settings.specs.declared.Gains.{Gains}
 use Rattle.settings.specs.declared.Settings.{Settings}
 use Rattle.whole.specs.Words.{bytes}
-use Rattle.settings.specs.Table.{gain, share, window, firsts, sets, shortSets, rowsOf}
+use Rattle.settings.specs.Table.{gain, share, window, farthest, firsts, sets, shortSets, rowsOf}
 use Rattle.settings.specs.Settings.{inTable, settingsRefusal}
 use Rattle.settings.specs.SettingsC.{gainSet, settingsC}
 use Rattle.word.specs.Decimal.{shown}
 use Rattle.text.specs.declared.reader.Reading.{Reading}
-use Rattle.text.specs.Lines.{Headed, with-mean, no-mean, Gained, full, short, textFor, longestFor}
+use Rattle.text.specs.Lines.{Headed, both-lines, mean-alone, neither-line, Gained, full, short, textFor, longestFor}
 use Rattle.text.specs.Reader.{readText}
 use Rattle.text.proofs.Forms.{said-of, form-read}
 
@@ -36,9 +35,9 @@ unfolding inTable rowsOf
 c-right = refl
 
 pub c-read : readText textC ≡ record { code = 0; line = 0; settings = settingsC }
-c-read = rw (← c-written) (form-read firsts shortSets settingsC no-mean short (said-of firsts shortSets settingsC no-mean short refl c-right (λ _. refl) (λ _. refl)))
+c-read = rw (← c-written) (form-read firsts shortSets settingsC neither-line short (said-of firsts shortSets settingsC neither-line short refl c-right (λ _. refl) (λ _. refl) (λ _. refl)))
 
--- each value at its widest; a text without the mean has 1
+-- each value at its widest, which of jump is also what a text without its line has; a text without mean has 1
 abbrev widest : Gains
 widest = gainSet gain gain gain share share
 
@@ -51,26 +50,26 @@ longest h = record {
   sp = negsuc 999999;
   rate = pos 2000000;
   mean = cond (eqb h firsts) (pos 1) (pos window);
+  jump = pos farthest;
   gains = replicate sets widest;
 }
 
 longest-right : (h : ℕ) → Headed h → settingsRefusal (longest h) ≡ 0
 unfolding inTable rowsOf
-longest-right h with-mean = refl
-longest-right h no-mean = refl
+longest-right h both-lines = refl
+longest-right h mean-alone = refl
+longest-right h neither-line = refl
 
 pub longest-written : (h n : ℕ) → Headed h → Gained n → length (textFor h n (longest h)) ≡ longestFor h n
 unfolding textFor rowsOf shown
-longest-written h n with-mean full = refl
-longest-written h n with-mean short = refl
-longest-written h n no-mean full = refl
-longest-written h n no-mean short = refl
+longest-written h n both-lines full = refl
+longest-written h n both-lines short = refl
+longest-written h n mean-alone full = refl
+longest-written h n mean-alone short = refl
+longest-written h n neither-line full = refl
+longest-written h n neither-line short = refl
 
 pub longest-read : (h n : ℕ) → Headed h → Gained n → readText (textFor h n (longest h)) .code ≡ 0
 longest-read h n a b =
-    let t = said-of h n (longest h) a b refl (longest-right h a) (mean h a) (λ _. refl) in
+    let t = said-of h n (longest h) a b refl (longest-right h a) (λ p. rw p) (λ _. refl) (λ _. refl) in
     ap (λ (d : Reading). d .code) (form-read h n (longest h) a b t)
-  where
-    mean : (h : ℕ) → Headed h → h ≡ firsts → longest h .mean ≡ pos 1
-    mean h with-mean p = absurd (omega arith)
-    mean h no-mean p = refl

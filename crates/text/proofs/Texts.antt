@@ -9,7 +9,7 @@ use borrow.Author.Tests.{lt-ltb, le-ltb, ltb-true, ltb-false, eq-eqb, ne-eqb, eq
 use lib.Dec.{ltb, eqb}
 use lib.IntN.{ℤ, pos}
 use lib.ListN.{length, take, drop, length-drop, drop-of-length-le}
-use Rattle.whole.proofs.Truth.{both, chosen, by-test, zero-if, zero-then}
+use Rattle.whole.proofs.Truth.{never, both, chosen, by-test, zero-if, zero-then}
 use Rattle.whole.specs.Words.{bytes}
 use Rattle.settings.specs.declared.table.Row.{Row}
 use Rattle.settings.specs.declared.Settings.{Settings}
@@ -21,7 +21,7 @@ use Rattle.word.specs.End.{endAt, feed, begins}
 use Rattle.word.proofs.Words.{part-after}
 use Rattle.text.specs.declared.reader.Line.{Line}
 use Rattle.text.specs.declared.reader.Reading.{Reading}
-use Rattle.text.specs.Lines.{keyOf, Headed, with-mean, no-mean, Gained, full, short}
+use Rattle.text.specs.Lines.{keyOf, Headed, both-lines, mean-alone, neither-line, Gained, full, short}
 use Rattle.text.specs.Reader.{lineIn, ended, wordIn, formed, valueIn, lineValue, lineCode, lineRead, afterLine, afterLines, refused, readEnd, readFrom, headsIn, setsIn, readText}
 use Rattle.text.proofs.Rows.{form-long, form-done, headed, gained}
 
@@ -118,17 +118,44 @@ pub one-line : (n i : ℕ) (s : List ℕ) → i < n → afterLines (n - i) s ≡
 one-line n i s h = let e : n - i ≡ suc (n - (i + 1)) = omega arith in rw e
 
 -- which rows before the gain sets a text has
-pub mean-absent : (s : List ℕ) → begins (bytes "kp0") (afterLines firsts s) ≡ true → headsIn s ≡ firsts
-unfolding headsIn
-mean-absent s e = rw e
+module _ (s : List ℕ) where
+  -- whether the line after the first i rows is that of `kp0`
+  abbrev pub kp0After : ℕ → Bool
+  kp0After i = begins (bytes "kp0") (afterLines i s)
 
-pub mean-there : (s : List ℕ) → begins (bytes "kp0") (afterLines firsts s) ≡ false → headsIn s ≡ heads
-unfolding headsIn
-mean-there s e = rw e
+  pub has-neither : kp0After firsts ≡ true → headsIn s ≡ firsts
+  unfolding headsIn
+  has-neither e = rw e
 
-pub heads-in : (s : List ℕ) → Headed (headsIn s)
-unfolding headsIn
-heads-in s = chosen Headed (begins (bytes "kp0") (afterLines firsts s)) (λ _. no-mean) (λ _. with-mean)
+  pub has-mean-alone : kp0After firsts ≡ false → kp0After (firsts + 1) ≡ true → headsIn s ≡ firsts + 1
+  unfolding headsIn
+  has-mean-alone e f = rw (e, f)
+
+  pub has-both : kp0After firsts ≡ false → kp0After (firsts + 1) ≡ false → headsIn s ≡ heads
+  unfolding headsIn
+  has-both e f = rw (e, f)
+
+  -- what holds of each form that the lines after rate and mean can tell holds of the one that they tell
+  told : (P : ℕ → Type 0) → (kp0After firsts ≡ true → P firsts) → (kp0After firsts ≡ false → kp0After (firsts + 1) ≡ true → P (firsts + 1)) →
+      (kp0After firsts ≡ false → kp0After (firsts + 1) ≡ false → P heads) → P (headsIn s)
+  unfolding headsIn
+  told P neither alone both = chosen P (kp0After firsts) neither (λ e. chosen P (kp0After (firsts + 1)) (alone e) (both e))
+
+  pub heads-in : Headed (headsIn s)
+  heads-in = told Headed (λ _. neither-line) (λ _ _. mean-alone) (λ _ _. both-lines)
+
+  -- after the rows that it has stands `kp0`, where some are left out
+  pub kp0-there : headsIn s < heads → kp0After (headsIn s) ≡ true
+  kp0-there = told (λ (h : ℕ). h < heads → kp0After h ≡ true) (λ e _. e) (λ _ e _. e) (λ _ _ l. absurd (omega arith))
+
+  -- and not before that
+  kp0-not-yet : (i : ℕ) → Headed i → i < headsIn s → kp0After i ≡ false
+  kp0-not-yet i neither-line = told (λ (h : ℕ). firsts < h → kp0After firsts ≡ false) (λ _ l. absurd (omega arith)) (λ e _ _. e) (λ e _ _. e)
+  kp0-not-yet i mean-alone = told (λ (h : ℕ). firsts + 1 < h → kp0After (firsts + 1) ≡ false) (λ _ l. absurd (omega arith)) (λ _ _ l. absurd (omega arith)) (λ _ e _. e)
+  kp0-not-yet i both-lines = λ l. absurd (omega (arith, headed (headsIn s) heads-in))
+
+  pub kp0-first : (i : ℕ) → Headed i → kp0After i ≡ true → headsIn s ≤ i
+  kp0-first i a e = by-test (ltb i (headsIn s)) (λ t. never (sym (kp0-not-yet i a (ltb-true i (headsIn s) t)) ∙ e)) (λ t. ltb-false i (headsIn s) t)
 
 -- and how many gain sets
 module _ (h : ℕ) (s : List ℕ) where

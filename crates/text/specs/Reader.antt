@@ -1,4 +1,4 @@
--- 01, "Settings text", with 02's requests 5 and 7: what a text is read as.
+-- 01, "Settings text", with 02's requests 5, 7 and 8: what a text is read as.
 use Prim.Native.Nat.{ℕ, zero, suc, _+_}
 use mathlib.Core.Bool.{Bool, cond, _&&_}
 use mathlib.Core.List.{List, [], _∷_, _++_}
@@ -82,12 +82,15 @@ abbrev pub afterLines : ℕ → List ℕ → List ℕ
 afterLines zero s = s
 afterLines (suc n) s = afterLines n (afterLine s)
 
--- "a text whose line after rate begins with kp0" has no mean: the rows before the gain sets whose lines the text is to have
+-- the rows before the gain sets whose lines the text is to have. "A text may have neither line, mean alone, or both": "a text
+-- whose line after rate begins with kp0" has neither, else one whose line after mean does has mean alone
 unfoldable pub headsIn : List ℕ → ℕ
-headsIn s = cond (begins (bytes "kp0") (afterLines firsts s)) firsts heads
+headsIn s =
+    cond (begins (bytes "kp0") (afterLines firsts s)) firsts
+    (cond (begins (bytes "kp0") (afterLines (firsts + 1) s)) (firsts + 1) heads)
 
 -- "A text that ends after 26 lines is still read"; where bytes stand after them, they "go on as line 27", and with mean these "are
--- one more": the gain sets whose lines the text is to have
+-- one more", with jump two: the gain sets whose lines the text is to have
 unfoldable pub setsIn : ℕ → List ℕ → ℕ
 setsIn h s = cond (ltb 0 (length (afterLines (linesFor h shortSets) s))) sets shortSets
 

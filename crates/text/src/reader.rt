@@ -108,13 +108,18 @@ fn after_lines(text: &[u8], n: usize) -> &[u8]
     rest
 }
 
-// The rows before the gain sets whose lines a text is to have: "a text whose line after rate begins with kp0" has no mean.
+// The rows before the gain sets whose lines a text is to have: "a text may have neither line, mean alone, or both", by whether the
+// line after rate, or else that after mean, begins with kp0.
 fn heads_in(text: &[u8]) -> usize
     ensures { λ r. ⌜ r ≡ headsIn (now (text .entry)) ⌝ }
 {
-    let line = after_lines(text, Settings::FIRST);
-    if begins(b"kp0", line) {
+    let after_rate = after_lines(text, Settings::FIRST);
+    if begins(b"kp0", after_rate) {
         return Settings::FIRST;
+    }
+    let after_mean = after_lines(text, Settings::FIRST + 1);
+    if begins(b"kp0", after_mean) {
+        return Settings::FIRST + 1;
     }
     Settings::HEAD
 }

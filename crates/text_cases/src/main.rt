@@ -12,9 +12,10 @@ use word::number;
 
 // ---- texts that are put together
 
-// The text of settings C, whose sets 4 to 15 are set 0, without the line mean. Its first 26 lines are "Settings C, whole" in the
-// first paper.
-const C: [u8; 800] = *b"action=0\nlo=0\nhi=1000\nout=100\nsp=500\nrate=50\n\
+// The text of settings C, with every line: mean 1, jump 2,000,000, and sets 4 to 15 equal to set 0. Without mean and jump its
+// first 26 lines are "Settings C, whole" in the first paper.
+const C: [u8; 820] = *b"action=0\nlo=0\nhi=1000\nout=100\nsp=500\nrate=50\n\
+      mean=1\njump=2000000\n\
       kp0=65536\nki0=16384\nkd0=0\nalpha0=65536\nkt0=0\n\
       kp1=131072\nki1=16384\nkd1=65536\nalpha1=32768\nkt1=0\n\
       kp2=65536\nki2=16384\nkd2=0\nalpha2=65536\nkt2=32768\n\
@@ -32,9 +33,10 @@ const C: [u8; 800] = *b"action=0\nlo=0\nhi=1000\nout=100\nsp=500\nrate=50\n\
       kp14=65536\nki14=16384\nkd14=0\nalpha14=65536\nkt14=0\n\
       kp15=65536\nki15=16384\nkd15=0\nalpha15=65536\nkt15=0\n";
 
-// The longest text without the line mean.
-const LONGEST: [u8; 1044] =
+// The longest text.
+const LONGEST: [u8; 1066] =
     *b"action=1\nlo=-1000000\nhi=1000000\nout=-1000000\nsp=-1000000\nrate=2000000\n\
+      mean=128\njump=2000000\n\
       kp0=4194304\nki0=4194304\nkd0=4194304\nalpha0=65536\nkt0=65536\n\
       kp1=4194304\nki1=4194304\nkd1=4194304\nalpha1=65536\nkt1=65536\n\
       kp2=4194304\nki2=4194304\nkd2=4194304\nalpha2=65536\nkt2=65536\n\
@@ -51,6 +53,13 @@ const LONGEST: [u8; 1044] =
       kp13=4194304\nki13=4194304\nkd13=4194304\nalpha13=65536\nkt13=65536\n\
       kp14=4194304\nki14=4194304\nkd14=4194304\nalpha14=65536\nkt14=65536\n\
       kp15=4194304\nki15=4194304\nkd15=4194304\nalpha15=65536\nkt15=65536\n";
+
+// "A text may have neither line, mean alone, or both": the line of kp0 in each.
+const NEITHER: usize = 7;
+
+const MEAN: usize = 8;
+
+const BOTH: usize = 9;
 
 // Room for any text of these cases.
 const ROOM: usize = 1100;
@@ -138,11 +147,12 @@ impl Made {
         Made::changed(text, n, new)
     }
 
-    // A text without the line mean, with other bytes after rate; where short, up to the last line of gain set 3.
-    fn form(text: &[u8], mean: &[u8], short: bool) -> Made {
-        let a = start_of(text, b'\n', 7);
-        let head = Made::empty().with(&text[0..a]).with(mean);
-        let sets = &text[a..];
+    // Of a text with every line, those before line kp0 and those of the gain sets; where short, up to the last line of set 3.
+    fn form(text: &[u8], kp0: usize, short: bool) -> Made {
+        let a = start_of(text, b'\n', kp0);
+        let head = Made::empty().with(&text[0..a]);
+        let b = start_of(text, b'\n', BOTH);
+        let sets = &text[b..];
         if short {
             let z = start_of(sets, b'\n', 21);
             return head.with(&sets[0..z]);
@@ -150,27 +160,21 @@ impl Made {
         head.with(sets)
     }
 
-    // Settings C, with mean or not, short or not.
-    fn c(mean: bool, short: bool) -> Made {
+    // Settings C in one of its forms.
+    fn c(kp0: usize, short: bool) -> Made {
         let c = C;
-        if mean {
-            return Made::form(&c, b"mean=1\n", short);
-        }
-        Made::form(&c, b"", short)
+        Made::form(&c, kp0, short)
     }
 
-    // The longest text with mean or not, short or not.
-    fn longest(mean: bool, short: bool) -> Made {
+    // The longest text of a form.
+    fn longest(kp0: usize, short: bool) -> Made {
         let longest = LONGEST;
-        if mean {
-            return Made::form(&longest, b"mean=128\n", short);
-        }
-        Made::form(&longest, b"", short)
+        Made::form(&longest, kp0, short)
     }
 
     // The same with hi = lo.
-    fn level(mean: bool, short: bool) -> Made {
-        Made::longest(mean, short).case(false, 3, b"hi=-1000000\n")
+    fn level(kp0: usize, short: bool) -> Made {
+        Made::longest(kp0, short).case(false, 3, b"hi=-1000000\n")
     }
 }
 
@@ -183,11 +187,6 @@ fn say(name: &[u8], code: u8, n: usize) {
     io::write_all(STDOUT_FILENO, b" ");
     io::print_decimal(STDOUT_FILENO, n as u64);
     io::write_all(STDOUT_FILENO, b"\n");
-}
-
-fn read(name: &[u8], bytes: &[u8]) {
-    let r = read_settings(bytes);
-    say(name, r.code, r.line);
 }
 
 fn reading_of(made: Made) -> Reading {
@@ -246,13 +245,13 @@ fn cases(text: Made, cut: bool, list: &[u8]) {
 
 // "Text that stops early is 14 at the line where it stops."
 fn early() {
-    read(b"empty", b"");
-    read(b"one-line-feed", b"\n");
-    read(b"one-byte", b"a");
     cases(
-        Made::c(false, true),
+        Made::c(NEITHER, true),
         true,
-        b"stops-after-line-5|06||\
+        b"empty|01||\
+          one-line-feed|01|\n|\
+          one-byte|01|a|\
+          stops-after-line-5|06||\
           stops-after-line-1|02||\
           stops-after-line-25|26||\
           stops-in-a-key|06|rat|\
@@ -261,7 +260,7 @@ fn early() {
           stops-after-a-value|06|rate=50|",
     );
     cases(
-        Made::c(false, true),
+        Made::c(NEITHER, true),
         false,
         b"no-last-line-feed|26|kt3=0|\
           no-last-line-feed-and-too-large|26|kt3=9999999|",
@@ -271,7 +270,7 @@ fn early() {
 // Lines of wrong form: 14.
 fn forms() {
     cases(
-        Made::c(false, true),
+        Made::c(NEITHER, true),
         false,
         b"crlf|01|action=0\r\n|\
           crlf-on-the-last-line|26|kt3=0\r\n|\
@@ -299,7 +298,7 @@ fn forms() {
 // Values of wrong form: 14.
 fn values() {
     cases(
-        Made::c(false, true),
+        Made::c(NEITHER, true),
         false,
         b"no-value|03|hi=\n|\
           minus-alone|03|hi=-\n|\
@@ -325,7 +324,7 @@ fn values() {
 // Values outside their ranges: 15; and at the ends of their ranges: 0.
 fn ranges() {
     cases(
-        Made::c(false, true),
+        Made::c(NEITHER, true),
         false,
         b"seven-digits-too-large|03|hi=9999999\n|\
           seven-digits-too-small|02|lo=-9999999\n|\
@@ -356,14 +355,14 @@ fn ranges() {
 // The order of the tests: lines in order, 14 before 15 in each, then 17, then 16.
 fn orders() {
     cases(
-        Made::c(false, true),
+        Made::c(NEITHER, true),
         true,
         b"15-on-line-2-14-on-line-3|02|lo=9999999\nhi=\n|\
           14-on-line-2-15-on-line-3|02|lo=\nhi=9999999\n|\
           keys-in-another-order|02|hi=1000\nlo=0\nout=100\n|",
     );
     cases(
-        Made::c(false, true),
+        Made::c(NEITHER, true),
         false,
         b"too-large-and-a-space|03|hi=9999999 \n|\
           a-line-twice|07|kp0=65536\nkp0=65536\n|\
@@ -385,17 +384,17 @@ fn orders() {
     );
     read_made(
         b"lo-is-hi-and-a-byte",
-        Made::c(false, true).case(false, 3, b"hi=0\n").with(b"x"),
+        Made::c(NEITHER, true).case(false, 3, b"hi=0\n").with(b"x"),
     );
 }
 
 // "86 lines": each line after 26 is tested as those before it are.
 fn long_forms() {
-    read_made(b"86-lines", Made::c(false, false));
     cases(
-        Made::c(false, false),
+        Made::c(NEITHER, false),
         true,
-        b"stops-after-line-26|27||\
+        b"86-lines|87||\
+          stops-after-line-26|27||\
           stops-after-line-27|28||\
           stops-after-line-31|32||\
           stops-after-line-85|86||\
@@ -403,7 +402,7 @@ fn long_forms() {
           stops-in-line-86|86|kt15=0|",
     );
     cases(
-        Made::c(false, false),
+        Made::c(NEITHER, false),
         false,
         b"line-27-left-out|27||\
           key-of-set-0-on-line-27|27|kp0=65536\n|\
@@ -424,7 +423,7 @@ fn long_forms() {
 // The line mean, which "follows rate".
 fn means() {
     cases(
-        Made::c(true, true),
+        Made::c(MEAN, true),
         false,
         b"mean-1|07|mean=1\n|\
           mean-128|07|mean=128\n|\
@@ -435,14 +434,13 @@ fn means() {
           mean-leading-zero|07|mean=01\n|\
           mean-0-and-a-wrong-line|07|mean=0\nx\n|\
           mean-twice|07|mean=1\nmean=1\n|\
-          jump-on-line-7|07|jump=5\n|\
           kp-on-line-7|07|kp=1\n|\
           kp1-on-line-7|07|kp1=1\n|\
           mean-left-out|07||\
           key-of-set-1-after-mean|08|kp1=65536\n|",
     );
     cases(
-        Made::c(false, true),
+        Made::c(NEITHER, true),
         false,
         b"kp00-on-line-7|07|kp00=1\n|\
           kp0-alone-on-line-7|07|kp0\n|\
@@ -454,11 +452,11 @@ fn means() {
 
 // "with the line request 5's 26 and 27 are one more"
 fn mean_forms() {
-    read_made(b"27-lines-with-mean", Made::c(true, true));
     cases(
-        Made::c(true, false),
+        Made::c(MEAN, false),
         true,
-        b"stops-after-line-6|07||\
+        b"87-lines|88||\
+          stops-after-line-6|07||\
           stops-in-mean|07|mean=1|\
           stops-after-mean|08||\
           stops-after-line-26-with-mean|27||\
@@ -467,7 +465,7 @@ fn mean_forms() {
           stops-after-line-86-with-mean|87||",
     );
     cases(
-        Made::c(true, true),
+        Made::c(MEAN, true),
         false,
         b"a-byte-after-line-27|28|x|\
           line-28-too-large|28|kp4=4194305\n|\
@@ -477,36 +475,93 @@ fn mean_forms() {
     );
     read_made(
         b"lo-is-hi-in-27-lines-and-a-byte",
-        Made::c(true, true).case(false, 3, b"hi=0\n").with(b"x"),
+        Made::c(MEAN, true).case(false, 3, b"hi=0\n").with(b"x"),
     );
     cases(
-        Made::c(true, false),
+        Made::c(MEAN, false),
         false,
         b"kt15-65537-with-mean|87|kt15=65537\n|\
           a-byte-after-line-87|87|kt15=0\nx|",
     );
 }
 
-// 1,053 bytes are accepted, 1,054 have lo = hi, and a byte more comes before that; so too 1,044 and 1,045 without mean.
-fn lengths() {
-    let many = [b'a'; 4096];
-    read(b"4096-bytes-and-no-line-feed", &many);
-    read_made(b"1053-bytes", Made::longest(true, false));
-    read_made(b"1054-bytes", Made::level(true, false));
-    read_made(b"1055-bytes", Made::level(true, false).with(b"x"));
-    read_made(b"1044-bytes", Made::longest(false, false));
-    read_made(b"1045-bytes", Made::level(false, false));
-    read_made(b"1046-bytes", Made::level(false, false).with(b"x"));
+// The line jump, "a settings line after mean".
+fn jumps() {
+    cases(
+        Made::c(BOTH, true),
+        false,
+        b"jump-1|08|jump=1\n|\
+          jump-2000000|08|jump=2000000\n|\
+          jump-0|08|jump=0\n|\
+          jump-2000001|08|jump=2000001\n|\
+          jump-minus-1|08|jump=-1\n|\
+          no-jump-value|08|jump=\n|\
+          jump-leading-zero|08|jump=01\n|\
+          15-in-mean-14-in-jump|07|mean=0\njump=\n|\
+          14-in-mean-15-in-jump|07|mean=\njump=0\n|\
+          jump-0-and-a-wrong-line|08|jump=0\nx\n|\
+          jump-twice|08|jump=5\njump=5\n|\
+          jump-before-rate|06|jump=5\nrate=50\n|\
+          jump-left-out|08||\
+          jump-alone|07||\
+          key-of-set-1-after-jump|09|kp1=65536\n|",
+    );
+    cases(
+        Made::c(MEAN, true),
+        false,
+        b"jump-before-mean|07|jump=5\nmean=1\n|\
+          kp00-on-line-8|08|kp00=1\n|\
+          jump-after-kp0|08|kp0=65536\njump=5\n|",
+    );
 }
 
-// 315 and 316 of 27 lines, and 306 and 307 of 26, but that a byte more is the line after them.
-fn short_lengths() {
-    read_made(b"315-bytes", Made::longest(true, true));
-    read_made(b"316-bytes", Made::level(true, true));
-    read_made(b"317-bytes", Made::level(true, true).with(b"x"));
-    read_made(b"306-bytes", Made::longest(false, true));
-    read_made(b"307-bytes", Made::level(false, true));
-    read_made(b"308-bytes", Made::level(false, true).with(b"x"));
+// With mean and jump request 5's 26 and 27 are two more.
+fn jump_forms() {
+    cases(
+        Made::c(BOTH, false),
+        true,
+        b"88-lines|89||\
+          stops-in-jump|08|jump=5|\
+          stops-after-jump|09||\
+          stops-after-line-27-with-jump|28||\
+          stops-after-line-28-with-jump|29||\
+          stops-after-line-29-with-jump|30||\
+          stops-after-line-87-with-jump|88||",
+    );
+    cases(
+        Made::c(BOTH, true),
+        false,
+        b"a-byte-after-line-28|29|x|\
+          line-29-too-large|29|kp4=4194305\n|\
+          a-good-line-29|29|kp4=0\n|\
+          jump-again-after-line-28|29|jump=5\n|\
+          lo-is-hi-in-28-lines|03|hi=0\n|",
+    );
+    cases(
+        Made::c(BOTH, false),
+        false,
+        b"kt15-65537-with-jump|88|kt15=65537\n|\
+          a-byte-after-line-88|88|kt15=0\nx|",
+    );
+}
+
+// The longest text of a form is accepted; a byte more has lo = hi; and yet a byte more comes before that.
+fn edges(kp0: usize, short: bool, most: &[u8], level: &[u8], more: &[u8]) {
+    read_made(most, Made::longest(kp0, short));
+    read_made(level, Made::level(kp0, short));
+    read_made(more, Made::level(kp0, short).with(b"x"));
+}
+
+fn lengths() {
+    let many = [b'a'; 4096];
+    let r = read_settings(&many);
+    say(b"4096-bytes-and-no-line-feed", r.code, r.line);
+    edges(BOTH, false, b"1066-bytes", b"1067-bytes", b"1068-bytes");
+    edges(MEAN, false, b"1053-bytes", b"1054-bytes", b"1055-bytes");
+    edges(NEITHER, false, b"1044-bytes", b"1045-bytes", b"1046-bytes");
+    edges(BOTH, true, b"328-bytes", b"329-bytes", b"330-bytes");
+    edges(MEAN, true, b"315-bytes", b"316-bytes", b"317-bytes");
+    edges(NEITHER, true, b"306-bytes", b"307-bytes", b"308-bytes");
 }
 
 // ---- the writer
@@ -538,23 +593,23 @@ fn settings_of(made: Made) -> Settings {
     reading_of(made).settings
 }
 
-// 18 for a buffer shorter than the text; else the length, and every byte after the text stays. "The writer always gives" mean.
+// 18 for a buffer shorter than the text; else the length, and every byte after the text stays. Mean and jump are always written.
 fn rooms() {
-    let s = settings_of(Made::c(false, true));
-    let l = settings_of(Made::longest(true, false));
+    let s = settings_of(Made::c(NEITHER, true));
+    let l = settings_of(Made::longest(BOTH, false));
     write(b"c-in-1100-bytes", s, ROOM);
-    write(b"c-in-807-bytes", s, 807);
-    write(b"c-in-806-bytes", s, 806);
+    write(b"c-in-820-bytes", s, 820);
+    write(b"c-in-819-bytes", s, 819);
     write(b"c-in-230-bytes", s, 230);
     write(b"c-in-0-bytes", s, 0);
     write(b"longest-in-1100-bytes", l, ROOM);
-    write(b"longest-in-1053-bytes", l, 1053);
-    write(b"longest-in-1052-bytes", l, 1052);
+    write(b"longest-in-1066-bytes", l, 1066);
+    write(b"longest-in-1065-bytes", l, 1065);
 }
 
 // 11, then 16, then 18.
 fn wrongs() {
-    let s = settings_of(Made::c(true, false));
+    let s = settings_of(Made::c(BOTH, false));
     let mut high = s;
     high.hi = 1000001;
     let mut low = s;
@@ -569,6 +624,10 @@ fn wrongs() {
     none.mean = 0;
     let mut wide = s;
     wide.mean = 129;
+    let mut near = equal;
+    near.jump = 0;
+    let mut far = s;
+    far.jump = 2000001;
     write(b"write-hi-1000001", high, ROOM);
     write(b"write-lo-least-of-32-bits", low, ROOM);
     write(b"write-lo-is-hi", equal, ROOM);
@@ -578,6 +637,8 @@ fn wrongs() {
     write(b"write-lo-is-hi-and-0-bytes", equal, 0);
     write(b"write-mean-0-and-lo-is-hi", none, ROOM);
     write(b"write-mean-129", wide, ROOM);
+    write(b"write-jump-0-and-lo-is-hi", near, ROOM);
+    write(b"write-jump-2000001", far, ROOM);
     write(b"write-blank", Settings::blank(), ROOM);
 }
 
@@ -614,32 +675,36 @@ fn beside(name: &[u8], made: Made) {
 
 // Every form is written in full.
 fn trips() {
-    let c = Made::c(true, false);
+    let c = Made::c(BOTH, false);
     again(b"c-again", c, c);
-    again(b"short-c-again", Made::c(true, true), c);
-    again(b"c-without-mean-again", Made::c(false, false), c);
-    again(b"short-c-without-mean-again", Made::c(false, true), c);
+    again(b"short-c-again", Made::c(BOTH, true), c);
+    again(b"c-with-mean-alone-again", Made::c(MEAN, false), c);
+    again(b"short-c-with-mean-alone-again", Made::c(MEAN, true), c);
+    again(b"c-with-neither-again", Made::c(NEITHER, false), c);
+    again(b"short-c-with-neither-again", Made::c(NEITHER, true), c);
 }
 
 fn longest_trips() {
-    let longest = Made::longest(true, false);
+    let longest = Made::longest(BOTH, false);
     let one = longest.case(false, 7, b"mean=1\n");
+    let five = longest.case(false, 8, b"jump=5\n");
     again(b"longest-again", longest, longest);
     again(
-        b"short-longest-without-mean-again",
-        Made::longest(false, true),
+        b"short-longest-with-neither-again",
+        Made::longest(NEITHER, true),
         one,
     );
+    again(b"jump-5-again", five, five);
 }
 
 // "What stands beside the code is the blank."
 fn blanks() {
-    beside(b"values-of-c", Made::c(false, true));
-    beside(b"values-of-longest", Made::longest(true, false));
-    beside(b"values-beside-16", Made::level(true, false));
-    beside(b"values-beside-17", Made::level(true, false).with(b"x"));
-    beside(b"values-beside-16-in-26-lines", Made::level(false, true));
-    beside(b"values-beside-14", Made::level(false, true).with(b"x"));
+    beside(b"values-of-c", Made::c(NEITHER, true));
+    beside(b"values-of-longest", Made::longest(BOTH, false));
+    beside(b"values-beside-16", Made::level(BOTH, false));
+    beside(b"values-beside-17", Made::level(BOTH, false).with(b"x"));
+    beside(b"values-beside-16-in-26-lines", Made::level(NEITHER, true));
+    beside(b"values-beside-14", Made::level(NEITHER, true).with(b"x"));
 }
 
 // ---- one decimal
@@ -703,8 +768,9 @@ fn main() {
     long_forms();
     means();
     mean_forms();
+    jumps();
+    jump_forms();
     lengths();
-    short_lengths();
     rooms();
     wrongs();
     trips();

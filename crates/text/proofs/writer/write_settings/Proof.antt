@@ -11,7 +11,7 @@ use Rattle.settings.specs.Table.{heads, sets as every}
 use Rattle.settings.specs.Settings.{settingsRefusal}
 use Rattle.settings.proofs.Fit.{settings-fit}
 use Rattle.word.proofs.Stores.{front-stored, text-part}
-use Rattle.text.specs.Lines.{with-mean, full, textOf, longestText}
+use Rattle.text.specs.Lines.{both-lines, full, textOf, longestText}
 use Rattle.text.proofs.Writes.{settings-refused, too-short, fits-in, sound-long}
 use Rattle.text.proofs.writer.write_settings.Statement.{statement}
 use Rattle.text.proofs.writer.write_settings.Tie as tie
@@ -45,7 +45,7 @@ record Held (len : ℕ) (space text : List ℕ) : Type 0 where
 held : (c : tie.After-put-lines) → Held (c .put-lines .result) (c .put-lines .last .1 .0) (textOf (c .before .before .before .before .before .args .settings))
 held c =
     let s = c .before .before .before .before .before in
-    let short = sound-long heads every (s .args .settings) with-mean full (settings-fit (s .args .settings) (s .good .0) .sets) (sound (c .before .before)) in
+    let short = sound-long heads every (s .args .settings) both-lines full (settings-fit (s .args .settings) (s .good .0) .sets) (sound (c .before .before)) in
     let n = c .put-lines .ensures .0 in
     record {
       long = n;
