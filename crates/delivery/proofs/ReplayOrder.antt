@@ -113,22 +113,22 @@ module _ (s : Numbered) (first : ℕ) (pvs : List ℤ) (room : ℕ) where
   pub bad-sample : hasPlace (replayRefusal s first pvs room) ≡ true → BadSample
   unfolding replayRefusal
   bad-sample p =
-      let v = if-not (validOf s) p refl in
-      let o = else-not (eqb first 0 || leb first (s .memory .number)) (v .1) refl in
-      let g = else-not (ltb (s .memory .number + 1) first) (o .1) refl in
-      let r = else-not (ltb room (length pvs)) (g .1) refl in
-      let n = else-not (ltb (numbersLeft s) (length pvs)) (r .1) refl in
+      let v = if-not (validOf s) _ 10 p refl in
+      let o = else-not (eqb first 0 || leb first (s .memory .number)) 1 _ (v .1) refl in
+      let g = else-not (ltb (s .memory .number + 1) first) 3 _ (o .1) refl in
+      let r = else-not (ltb room (length pvs)) 12 _ (g .1) refl in
+      let n = else-not (ltb (numbersLeft s) (length pvs)) 13 _ (r .1) refl in
       let above = leb-false first (s .memory .number) (neither (eqb first 0) (leb first (s .memory .number)) (o .0) .1) in
       let below = ltb-false (s .memory .number + 1) first (g .0) in
       record { rules = v .0; next = omega arith; code = rw (v .0, o .0, g .0, r .0, n .0) }
     where
-      if-not : (b : Bool) {m k : ℕ} → hasPlace (cond b m k) ≡ true → hasPlace k ≡ false → (b ≡ true) × (hasPlace m ≡ true)
-      if-not true e f = (refl, e)
-      if-not false e f = never (sym f ∙ e)
+      if-not : (b : Bool) (m k : ℕ) → hasPlace (cond b m k) ≡ true → hasPlace k ≡ false → (b ≡ true) × (hasPlace m ≡ true)
+      if-not true m k e f = (refl, e)
+      if-not false m k e f = never (sym f ∙ e)
 
-      else-not : (b : Bool) {k m : ℕ} → hasPlace (cond b k m) ≡ true → hasPlace k ≡ false → (b ≡ false) × (hasPlace m ≡ true)
-      else-not true e f = never (sym f ∙ e)
-      else-not false e f = (refl, e)
+      else-not : (b : Bool) (k m : ℕ) → hasPlace (cond b k m) ≡ true → hasPlace k ≡ false → (b ≡ false) × (hasPlace m ≡ true)
+      else-not true k m e f = never (sym f ∙ e)
+      else-not false k m e f = (refl, e)
 
 -- ---- what is answered and what is written
 

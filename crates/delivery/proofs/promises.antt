@@ -2,4 +2,5 @@
 pub mod Delivery
 pub mod Demand3
 pub mod Replay
+pub mod Jump
 pub mod Bench

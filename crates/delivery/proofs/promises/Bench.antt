@@ -2,6 +2,7 @@
 use mathlib.Core.Path.{_≡_, refl}
 use Rattle.settings.specs.Table.{rowsOf}
 use Rattle.settings.specs.Settings.{inTable}
+use Rattle.temperature.specs.Temperature.{codeOf}
 use Rattle.pid.specs.Units.{rounded}
 use Rattle.settings.specs.SettingsC.{settingsC}
 use Rattle.window.specs.Window.{freshWindow, taken, meanAt, windowOk}
@@ -14,5 +15,5 @@ use Rattle.delivery.specs.Bench.{log, played, expected}
 
 -- every row of the log, delivered from its start, shows what the log says: code, u, y, I, w and pending
 pub bench-log : played (newOf (freshOf settingsC)) log ≡ expected log
-unfolding rounded rowsOf inTable freshWindow taken meanAt windowOk valid lesser greater limited ramped filtered derivative sensedOf clamped backCalculated integrated actedOf sampleOf stepOf refusalOf isLast foundBy servedOf deliveredOf log played expected
+unfolding rounded rowsOf inTable freshWindow taken meanAt windowOk valid lesser greater limited ramped filtered derivative sensedOf clamped backCalculated integrated actedOf codeOf sampleOf stepOf refusalOf isLast foundBy servedOf deliveredOf log played expected
 bench-log = refl

@@ -12,6 +12,7 @@ use Rattle.settings.specs.Settings.{inTable}
 use Rattle.command.specs.declared.Command.{Command}
 use Rattle.command.specs.declared.Command.the-variants.{Sample, Automatic, Target, Set}
 use Rattle.pid.specs.declared.record.Loop.{Loop}
+use Rattle.temperature.specs.Temperature.{codeOf}
 use Rattle.pid.specs.Units.{rounded}
 use Rattle.settings.specs.SettingsC.{settingsC}
 use Rattle.command.specs.Command.{same}
@@ -78,5 +79,5 @@ pub bench-kept :
     ∷ Target (pos 800) (pos 50)
     ∷ Sample (pos 476)
     ∷ []
-unfolding rounded lesser greater limited ramped filtered derivative sensedOf clamped backCalculated integrated actedOf sampleOf stepOf refusalOf kept log
+unfolding rounded lesser greater limited ramped filtered derivative sensedOf clamped backCalculated integrated actedOf codeOf sampleOf stepOf refusalOf kept log
 bench-kept = refl

@@ -2,14 +2,17 @@
 -- the outputs, every later place keeps its number, and the count is n." The contract of `replay` says so by its definition
 -- (specs/Replay.antt); here is what follows from it.
 use Prim.Native.Nat.{ℕ, _+_, _<_, _≤_}
-use mathlib.Core.Path.{_≡_, refl, sym, _∙_}
+use mathlib.Core.Path.{_≡_, refl, sym, ap, _∙_}
 use mathlib.Core.Bool.{true, false}
 use mathlib.Core.List.{List, [], _∷_, _++_, map}
 use native.Mathlib.Omega.{arith}
+use borrow.Author.Tests.{eqb-false}
+use lib.Dec.{eqb}
 use lib.IntN.{ℤ, pos}
 use lib.ListN.{length, take, drop, getD}
+use lib.Seq.{length-take-le}
 use Rattle.whole.specs.Numbers.{inside}
-use Rattle.whole.proofs.Truth.{both}
+use Rattle.whole.proofs.Truth.{never, both, by-test}
 use Rattle.settings.specs.Table.{rowsOf}
 use Rattle.settings.specs.Settings.{inTable}
 use Rattle.command.specs.declared.Command.the-variants.{Sample}
@@ -19,21 +22,24 @@ use Rattle.temperature.proofs.Earliest.{front-good}
 use Rattle.temperature.proofs.promises.Jump.{codeAt, earliest, none-bad, all-good}
 use Rattle.pid.specs.Record.{freshOf, inB, valid}
 use Rattle.pid.specs.Law.{guardOf}
-use Rattle.pid.specs.Play.{hasPlace}
+use Rattle.pid.specs.Play.{hasPlace, afterSamples}
 use Rattle.command.specs.Sequence.{after, each}
 use Rattle.window.specs.Window.{freshWindow, windowOk}
 use Rattle.pid.proofs.Sound.{holds-of}
-use Rattle.memory.specs.Memory.{lastNumber}
+use Rattle.pid.proofs.Plays.{bad-after}
+use Rattle.memory.specs.Memory.{lastNumber, lastOf}
 use Rattle.memory.specs.Walk.{Answer}
 use Rattle.delivery.specs.declared.numbered.Numbered.{Numbered}
+use Rattle.delivery.specs.declared.numbered.Delivered.{Delivered}
 use Rattle.delivery.specs.declared.replay.Replayed.{Replayed}
-use Rattle.delivery.specs.Numbered.{newOf, memoryOk, validOf}
+use Rattle.delivery.specs.Numbered.{recordOf, newOf, memoryOk, validOf, deliveredOf}
 use Rattle.delivery.specs.Demand3.{handedBack, answered, standing, keptOn}
 use Rattle.delivery.specs.Replay.{numbered, recordAfter, numbersLeft, replayRefusal, replayedOf, writtenOf}
 use Rattle.delivery.proofs.Ended.{all-valid}
-use Rattle.delivery.proofs.Replays.{all-kept}
+use Rattle.delivery.proofs.Served.{refused-one}
+use Rattle.delivery.proofs.Replays.{record-is, all-kept}
 use Rattle.delivery.proofs.Sent.{outputs-length, front-length, front-later, again-old}
-use Rattle.delivery.proofs.ReplayOrder.{accepted-of, accepted-when, code-1, refuses, done, by-code}
+use Rattle.delivery.proofs.ReplayOrder.{bad-sample, accepted-of, accepted-when, code-1, refuses, done, by-code}
 
 -- a replay that is not refused: the record and the outputs are those of single deliveries
 pub as-delivered : (s : Numbered) (first : ℕ) (samples out : List ℤ) → replayRefusal s first samples (length out) ≡ 0 →
@@ -83,9 +89,42 @@ pub record RefusedAt (s : Numbered) (first : ℕ) (samples : List ℤ) (code pla
       answered (recordAfter s first (take place samples)) (record { number = first + place; command = Sample (getD samples place (pos 0)) }) .code
       ≡ code
 
+-- of the next number on
+refused-next : (s : Numbered) (samples : List ℤ) → validOf s ≡ true → (firstCode (guardOf (s .state)) samples ≡ 0 → ⊥) →
+    RefusedAt s (s .memory .number + 1) samples (firstCode (guardOf (s .state)) samples) (firstBad (guardOf (s .state)) samples)
+refused-next s samples v h =
+    let l = s .state in
+    let n = firstBad (guardOf l) samples in
+    let t = take n samples in
+    let c = Sample (getD samples n (pos 0)) in
+    let e = earliest (guardOf l) samples h in
+    let f = front-good (guardOf l) samples in
+    let b = bad-after l samples h in
+    let long = length-take-le n samples (omega (arith, e .there)) in
+    let x = record-is s t v f in
+    let u = ap validOf (sym x) ∙ all-valid s (numbered (s .memory .number + 1) t) v in
+    let r = recordOf (afterSamples l t) (s .memory .number + length t) (lastOf (s .memory .last) (map Sample t)) in
+    record {
+      there = e .there;
+      before = all-kept (standing s) t f;
+      here =
+          ap (λ (y : Numbered). deliveredOf y (s .memory .number + 1 + n) c .code) x
+          ∙ ap (λ (d : Delivered). d .code) (refused-one r (s .memory .number + 1 + n) c u (omega (arith, long)) (λ z. h (sym b ∙ z)))
+          ∙ b;
+    }
+
 pub earliest-bad : (s : Numbered) (first : ℕ) (samples out : List ℤ) → hasPlace (replayedOf s first samples (length out) .code) ≡ true →
     RefusedAt s first samples (replayedOf s first samples (length out) .code) (replayedOf s first samples (length out) .place)
-earliest-bad s first samples out h = ?
+unfolding replayedOf
+earliest-bad s first samples out h = by-test (eqb code 0) (λ e. never (rw e at h)) refused where
+  code : ℕ
+  code = replayRefusal s first samples (length out)
+
+  refused : eqb code 0 ≡ false → RefusedAt s first samples (replayedOf s first samples (length out) .code) (replayedOf s first samples (length out) .place)
+  refused e =
+      let k : hasPlace code ≡ true = rw e at h in
+      let b = bad-sample s first samples (length out) k in
+      rw (e, k) (rw (← b .next, b .code) at (refused-next s samples (b .rules) (λ z. eqb-false code 0 e (sym (b .code) ∙ z))))
 
 -- "On a refusal neither record nor list changes, and the count is 0."
 pub refused-back : (s : Numbered) (first : ℕ) (samples out : List ℤ) → (replayedOf s first samples (length out) .code ≡ 0 → ⊥) →
