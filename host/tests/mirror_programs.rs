@@ -8,7 +8,7 @@ mod common;
 use common::{same, Program};
 use host::by_hand::Halves;
 use host::delivery::Delivery;
-use host::form::Form;
+use host::form::{AfterRate, Form};
 use host::mirror::{oven_line, Mirror};
 use host::rng::{for_each_seed, Rng};
 use host::settings::Settings;
@@ -141,7 +141,7 @@ fn mirrored_samples_get_mirrored_outputs_from_oven() {
 fn a_half_at_each_place_shows_in_what_the_programs_write() {
     let (oven, journal) = (Program::new("oven"), Program::new("journal"));
     for example in example::half_ovens() {
-        let short = Form { mean: true, short: true }.text(&example.settings);
+        let short = Form { after_rate: AfterRate::Mean, short: true }.text(&example.settings);
         let output = written(&oven, &short, &gen::sample_file(&example.samples));
         let outputs: Vec<i32> = output.lines().map(|u| u.parse().expect("an output")).collect();
         assert_eq!(outputs, example.outputs, "{:?}", example.settings);

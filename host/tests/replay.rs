@@ -20,7 +20,7 @@ fn refused(code: i32, place: usize) -> Replayed {
 fn samples_for(rng: &mut Rng, record: &Loop, most: usize) -> Vec<i32> {
     let left = u64::from(u32::MAX - record.last).min(most as u64) as usize;
     let count = rng.below(left + 1);
-    gen::samples(rng, &record.settings, count)
+    gen::samples_for(rng, record, count)
 }
 
 /// "C with mean=2, automatic, 480, 480, 470: 100, 105, 116", replayed as one and cut anywhere.
@@ -147,7 +147,7 @@ fn the_first_bad_sample_is_told_and_nothing_kept() {
         record.last_command = record.last_command.filter(|_| record.last > 0);
         let before = record;
         let count = 1 + rng.below(50);
-        let mut samples = gen::samples(rng, &record.settings, count);
+        let mut samples = gen::samples_for(rng, &record, count);
         let first_bad = rng.below(count);
         let bad = [1_000_001, -1_000_001, i32::MIN, i32::MAX];
         samples[first_bad] = rng.pick(&bad);
