@@ -132,6 +132,7 @@ fn a_record() -> Loop {
         last_raw: 481,
         last: 7,
         last_command: Some(Put(113)),
+        settings: Settings { jump: 77, ..example::settings() },
         ..example::fresh()
     }
 }
