@@ -585,6 +585,12 @@ pub fn doubtful_samples(rng: &mut Rng, record: &Loop, count: usize) -> Vec<i32> 
     samples
 }
 
+/// Such temperatures for an oven of these settings, of seven digits at most, as a sample file has them.
+pub fn doubtful_oven_samples(rng: &mut Rng, settings: &Settings, count: usize) -> Vec<i32> {
+    let samples = doubtful_samples(rng, &Loop::make(settings).1, count);
+    samples.into_iter().map(|raw| raw.clamp(-9_999_999, 9_999_999)).collect()
+}
+
 /// What the program delivers for its samples: "automatic as number 1 and the samples from number 2
 /// on".
 pub fn sample_deliveries(samples: &[i32]) -> Vec<Delivery> {

@@ -411,8 +411,8 @@ fn of_the_jump(form: Form) -> Vec<Edge> {
     edges
 }
 
-/// Samples for settings C with a mean in its place or with other lines, and what `oven` writes.
-pub type MeanExample = (String, &'static [u8], String);
+/// Settings C with a mean, with a jump or with other lines, samples, and what `oven` writes.
+pub type OvenExample = (String, &'static [u8], String);
 
 /// "C with mean=2, automatic, 480, 480, 470: 100, 105, 116", and of every other mean. In the third
 /// sample
@@ -426,7 +426,7 @@ pub type MeanExample = (String, &'static [u8], String);
 /// "480, 481 gives 481", so that e = 19 and P + I + g = 19 + 80 + 4.75; "-480, -481 gives -481", so
 /// that with sp = -500 e = -19 and P + I + g = -19 + 120 - 4.75. "code 4 tests the raw one": before it
 /// e = 500 twice, and P + I + g = 500 - 400 + 125.
-pub fn mean_examples() -> Vec<MeanExample> {
+pub fn mean_examples() -> Vec<OvenExample> {
     let of_each = |mean| {
         let third = match mean {
             1 => 123,
@@ -436,7 +436,7 @@ pub fn mean_examples() -> Vec<MeanExample> {
         let samples: &[u8] = b"480\n480\n470\n";
         (short_c(&format!("mean={mean}")), samples, format!("100\n105\n{third}\n"))
     };
-    let mut examples: Vec<MeanExample> = (1..=128).map(of_each).collect();
+    let mut examples: Vec<OvenExample> = (1..=128).map(of_each).collect();
     let two = short_c("mean=2");
     let below = two.replace("sp=500\n", "sp=-500\n");
     let bad = "100\n225\nrefused 4 3\n";
@@ -445,6 +445,95 @@ pub fn mean_examples() -> Vec<MeanExample> {
     examples.push((short_c("mean=128"), b"0\n0\n1000001\n", bad.to_string()));
     examples
 }
+
+/// Jumps of the least, of few, of one less than what refuses nothing, and of that.
+pub const JUMPS: [i32; 5] = [1, 2, 1_000, 1_999_999, 2_000_000];
+
+/// What stands between rate and kp0, samples, and the outputs that precede a refusal or the end. Of C
+/// with sp = 500 and u = 100, kp = 1 and ki = 1/4, after the transfer sample 480 with I = 80:
+///
+/// | sample | e | P + I + g | u |
+/// |---|---|---|---|
+/// | 490 | 10 | 10 + 80 + 2.5 | 93 |
+/// | 480 after that | 20 | 20 + 82.5 + 5 | 108 |
+/// | 470 after that | 30 | 30 + 87.5 + 7.5 | 125 |
+/// | 490 with mean=2, read as 485 | 15 | 15 + 80 + 3.75 | 99 |
+/// | 500 after that, read as 495 | 5 | 5 + 83.75 + 1.25 | 90 |
+/// | 480 after 480 | 20 | 20 + 80 + 5 | 105 |
+/// | 479 after that | 21 | 21 + 85 + 5.25 | 111 |
+/// | 478 after that | 22 | 22 + 90.25 + 5.5 | 118 |
+///
+/// From one end of the range to the other P is past a limit, and the output at it.
+const WITH_A_JUMP: [(&str, &[u8], &str); 20] = [
+    ("mean=1\njump=10", b"480\n490\n480\n470\n", "100 93 108 125"),
+    ("mean=1\njump=10", b"480\n491\n480\n", "100 refused 19 2"),
+    ("mean=1\njump=10", b"480\n469\n480\n", "100 refused 19 2"),
+    ("mean=1\njump=10", b"480\n490\n479\n", "100 93 refused 19 3"),
+    ("mean=1\njump=10", b"480\n490\n501\n1000001\n", "100 93 refused 19 3"),
+    ("mean=1\njump=10", b"480\n490\n501\nx\n", "100 93 refused 19 3"),
+    ("mean=1\njump=10", b"480\n490\n1000001\n5\n", "100 93 refused 4 3"),
+    ("mean=1\njump=10", b"480\n490\n501", "100 93 refused 14 3"),
+    ("mean=1\njump=10", b"480\n10000000\n", "100 refused 14 2"),
+    ("mean=1\njump=1", b"480\n480\n478\n", "100 105 refused 19 3"),
+    ("mean=1\njump=1", b"480\n480\n479\n478\n", "100 105 111 118"),
+    ("mean=1\njump=2", b"480\n480\n478\n", "100 105 113"),
+    ("mean=2\njump=10", b"480\n490\n500\n", "100 99 90"),
+    ("mean=2\njump=10", b"480\n490\n479\n", "100 99 refused 19 3"),
+    ("mean=1\njump=1999999", b"1000000\n-1000000\n", "100 refused 19 2"),
+    ("mean=1\njump=1999999", b"-1000000\n1000000\n", "100 refused 19 2"),
+    ("mean=1\njump=2000000", b"1000000\n-1000000\n", "100 1000"),
+    ("mean=1\njump=2000000", b"-1000000\n1000000\n", "100 0"),
+    ("mean=1", b"1000000\n-1000000\n", "100 1000"),
+    ("mean=1\njump=1", b"1000000\n", "100"),
+];
+
+/// "The program writes `refused 19 LINE`; a line is judged 14, 13, 4, 19."
+pub fn jump_examples() -> Vec<OvenExample> {
+    let lines = |outputs: &str| match outputs.split_once("refused") {
+        None => outputs.replace(' ', "\n") + "\n",
+        Some((taken, refusal)) => taken.replace(' ', "\n") + "refused" + refusal + "\n",
+    };
+    let example = |(after_rate, samples, outputs)| (short_c(after_rate), samples, lines(outputs));
+    let mut examples = WITH_A_JUMP.map(example).to_vec();
+    // With alpha0=1 the filter stays at 480, and kd0=0 keeps it from the output: 500 has e = 0.
+    let slow = short_c("mean=1\njump=10").replace("alpha0=65536\n", "alpha0=1\n");
+    examples.push((slow.clone(), b"480\n490\n500\n", lines("100 93 83")));
+    examples.push((slow, b"480\n490\n479\n", lines("100 93 refused 19 3")));
+    examples
+}
+
+/// What `journal` writes for settings C with jump=10. Manual samples may lie anywhere, those of automatic
+/// within 10 of the one kept before, transfer samples too; a refused one leaves its number free, and is
+/// not what the next is compared with. The sample 490 leaves I = 90, then 480 gives 20 + 90 + 5. In set 1
+/// with kp = 2, kd = 1 and alpha = 1/2 the filter goes from 480 to 590, 650 and 675: on 710 P = -420 and
+/// D = -60 leave I = 595, and 700 gives -400 + 595 - 50 - 25.
+pub const JOURNAL_WITH_JUMP_10: &str = "\
+number=1 command=sample value=0 second=0 code=0 output=100 last=1
+number=2 command=sample value=480 second=0 code=0 output=100 last=2
+number=3 command=automatic value=0 second=0 code=0 output=100 last=3
+number=4 command=sample value=491 second=0 code=19 output=100 last=3
+number=4 command=sample value=469 second=0 code=19 output=100 last=3
+number=4 command=sample value=490 second=0 code=0 output=100 last=4
+number=5 command=sample value=501 second=0 code=19 output=100 last=4
+number=5 command=sample value=1000001 second=0 code=4 output=100 last=4
+number=5 command=sample value=2147483647 second=0 code=4 output=100 last=4
+number=5 command=sample value=511 second=0 code=19 output=100 last=4
+number=5 command=sample value=479 second=0 code=19 output=100 last=4
+number=5 command=sample value=480 second=0 code=0 output=115 last=5
+number=5 command=sample value=480 second=0 code=0 output=115 last=5
+number=5 command=sample value=1000 second=0 code=2 output=115 last=5
+number=7 command=sample value=1000 second=0 code=3 output=115 last=5
+number=4 command=sample value=1000 second=0 code=1 output=115 last=5
+number=6 command=set value=1 second=0 code=0 output=115 last=6
+number=7 command=sample value=491 second=0 code=19 output=115 last=6
+number=7 command=hold value=0 second=0 code=0 output=115 last=7
+number=8 command=sample value=700 second=0 code=0 output=115 last=8
+number=9 command=automatic value=0 second=0 code=0 output=115 last=9
+number=10 command=sample value=480 second=0 code=19 output=115 last=9
+number=10 command=sample value=711 second=0 code=19 output=115 last=9
+number=10 command=sample value=710 second=0 code=0 output=115 last=10
+number=11 command=sample value=700 second=0 code=0 output=120 last=11
+";
 
 /// What `journal` writes for settings C with mean=2: a repeat, a refused sample and other commands do
 /// not enter the window, a manual sample does. The samples 470 are read as 475, and so is the last
@@ -470,11 +559,15 @@ number=10 command=sample value=470 second=0 code=0 output=116 last=10
 number=11 command=sample value=480 second=0 code=0 output=122 last=11
 ";
 
-/// The deliveries of that journal.
-pub fn delivered_with_mean_2() -> Vec<u8> {
+/// The deliveries of a journal.
+pub fn deliveries_of(journal: &str) -> Vec<u8> {
     let delivery = |line: &str| line.split(" code=").next().map(|line| format!("{line}\n"));
-    JOURNAL_WITH_MEAN_2.lines().filter_map(delivery).collect::<String>().into_bytes()
+    journal.lines().filter_map(delivery).collect::<String>().into_bytes()
 }
+
+/// What stands between rate and kp0 in settings C, and what `journal` writes.
+pub const JOURNALS: [(&str, &str); 2] =
+    [("mean=2", JOURNAL_WITH_MEAN_2), ("mean=1\njump=10", JOURNAL_WITH_JUMP_10)];
 
 /// The longest text that is accepted, of every line; in each form it is the longest of that.
 pub fn longest_text() -> String {
