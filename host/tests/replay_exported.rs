@@ -12,7 +12,6 @@ use host::{example, gen};
 
 #[link(name = "port", kind = "static")]
 extern "C" {
-    #[allow(clippy::too_many_arguments)]
     fn port_replay(
         values: *const i32,
         values_len: usize,
@@ -38,7 +37,8 @@ struct Call {
     target: i32,
     /// The sample before the replay; where it is refused, the loop is not primed.
     before: i32,
-    held: bool,
+    /// Whether a hold follows it: where this is not 0.
+    held: i32,
     first: u32,
     samples: Vec<i32>,
     outputs: Vec<i32>,
@@ -60,7 +60,7 @@ impl Call {
                 self.set,
                 self.target,
                 self.before,
-                i32::from(self.held),
+                self.held,
                 self.first,
                 self.samples.as_ptr(),
                 self.samples.len(),
@@ -91,7 +91,7 @@ impl Call {
         let aim = Command::Target { target: self.target, rate: settings.rate };
         let before =
             [Command::Automatic, Command::Set(self.set), aim, Command::Sample(self.before)];
-        let hold = self.held.then_some(Command::Hold);
+        let hold = (self.held != 0).then_some(Command::Hold);
         for (number, command) in (1..).zip(before.into_iter().chain(hold)) {
             deliver(&mut record, number, command);
         }
@@ -126,7 +126,7 @@ fn tight() -> Call {
         set: 0,
         target: 500,
         before: 480,
-        held: false,
+        held: 0,
         first: 5,
         samples: vec![],
         outputs: vec![-7; 4],
@@ -183,10 +183,12 @@ fn the_first_sample_and_manual_mode_are_exempt() {
     unprimed.answers(19, 1);
     unprimed.with(&[1_000_000, 999_990, 999_979]).answers(19, 2);
     unprimed.with(&[1_000_000, 999_990, 999_980]).answers(0, 0);
-    Call { held: true, ..unprimed.clone() }.answers(19, 1);
-    let held = Call { held: true, first: 6, ..leap.clone() };
-    held.answers(0, 0);
-    held.with(&[0, 1_000_001, 0]).answers(4, 1);
+    for held in [1, 2, -1, i32::MIN, i32::MAX] {
+        Call { held, ..unprimed.clone() }.answers(19, 1);
+        let held = Call { held, first: 6, ..leap.clone() };
+        held.answers(0, 0);
+        held.with(&[0, 1_000_001, 0]).answers(4, 1);
+    }
     leap.answers(19, 0);
     for (jump, code, place) in [(1_999_999, 19, 1), (2_000_000, 0, 0)] {
         let mut wide = unprimed.clone();
@@ -237,10 +239,10 @@ fn call(rng: &mut Rng) -> Call {
     let settings = if rng.one_in(12) { gen::doubtful_settings(rng) } else { gen::settings(rng) };
     let mut call = Call {
         values: settings.values().to_vec(),
-        set: rng.pick(&[0, 1, 5, 15, 15, 0, 3, 16]),
+        set: if rng.one_in(10) { rng.pick(&[16, -1]) } else { rng.below(16) as i32 },
         target: around(rng, 1_000_001),
         before: around(rng, 1_000_001),
-        held: rng.one_in(5),
+        held: rng.pick(&[0, 0, 0, 0, 0, 0, 1, -2]),
         first: 0,
         samples: vec![],
         outputs: vec![],
@@ -303,7 +305,7 @@ fn long_replays_are_answered_alike() {
         let settings =
             Settings::from_values(&call.values.as_slice().try_into().expect("88 values"));
         let (set, target, before) = (rng.below(16) as i32, settings.sp, settings.sp);
-        call = Call { set, target, before, held: false, first: 5, ..call };
+        call = Call { set, target, before, held: 0, first: 5, ..call };
         let count = 1_000 + rng.below(1_000);
         call.samples = gen::samples_for(rng, &call.loop_before(&settings), count);
         call.outputs = vec![-7; count + 2];
