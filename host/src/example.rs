@@ -5,7 +5,7 @@ use crate::by_hand::PLACES;
 use crate::law::Loop;
 use crate::settings::{GainSet, Settings, SETS};
 
-/// "Settings C, whole": with requests 5 and 7 it is a text of the shortest form.
+/// "Settings C, whole": with requests 5, 7 and 8 it is a text of the shortest form.
 pub const C: &str = "\
 action=0
 lo=0
@@ -35,14 +35,25 @@ alpha3=65536
 kt3=0
 ";
 
-/// Settings C as a record, "with sets 4 to 15 equal to set 0" and "read as mean 1".
+/// Settings C as a record, "with sets 4 to 15 equal to set 0", "read as mean 1", and without a line
+/// of the jump, which "means 2,000,000".
 pub fn settings() -> Settings {
     let set = |kp, ki, kd, alpha, kt| GainSet { kp, ki, kd, alpha, kt };
     let mut sets = [set(65_536, 16_384, 0, 65_536, 0); SETS];
     sets[1] = set(131_072, 16_384, 65_536, 32_768, 0);
     sets[2] = set(65_536, 16_384, 0, 65_536, 32_768);
     sets[3] = set(32_768, 0, 0, 65_536, 0);
-    Settings { action: 0, lo: 0, hi: 1_000, out: 100, sp: 500, rate: 50, mean: 1, sets }
+    Settings {
+        action: 0,
+        lo: 0,
+        hi: 1_000,
+        out: 100,
+        sp: 500,
+        rate: 50,
+        mean: 1,
+        jump: 2_000_000,
+        sets,
+    }
 }
 
 /// "A fresh loop from C".
@@ -117,5 +128,5 @@ fn half_in_the_mean() -> HalfOven {
 }
 
 fn half_settings(out: i32, gains: GainSet) -> Settings {
-    Settings { action: 0, lo: -10, hi: 10, out, sp: 0, rate: 1, mean: 1, sets: [gains; SETS] }
+    Settings { lo: -10, hi: 10, out, sp: 0, rate: 1, sets: [gains; SETS], ..settings() }
 }

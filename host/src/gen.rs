@@ -8,7 +8,7 @@ use crate::form::Form;
 use crate::journal::delivery_line;
 use crate::law::{Command, Loop, Mode};
 use crate::rng::Rng;
-use crate::settings::{places, GainSet, Row, Settings, LINES, MEAN, ROWS, SETS, WINDOW};
+use crate::settings::{places, GainSet, Row, Settings, JUMP, LINES, MEAN, ROWS, SETS, WINDOW};
 
 const LEAST_PV: i32 = -1_000_000;
 const MOST_PV: i32 = 1_000_000;
@@ -54,15 +54,19 @@ fn around32(rng: &mut Rng, least: i32, most: i32) -> i32 {
 }
 
 /// Valid settings: a third of them at the ends of the ranges, a third of a loop that moves within
-/// its limits, a third of one whose roundings land on halves. Each form of the text says a quarter of
-/// them whole, at least.
+/// its limits, a third of one whose roundings land on halves. Each form of the text says a ninth of
+/// them whole, at least; about half have the jump that refuses nothing.
 pub fn settings(rng: &mut Rng) -> Settings {
     let settings = match rng.below(3) {
         0 => extreme_settings(rng),
         1 => lively_settings(rng),
         _ => halving_settings(rng),
     };
-    rng.pick(&Form::ALL).says(&settings)
+    if rng.one_in(3) {
+        settings
+    } else {
+        rng.pick(&Form::ALL).says(&settings)
+    }
 }
 
 fn extreme_settings(rng: &mut Rng) -> Settings {
@@ -104,6 +108,7 @@ fn settings_within(
         sp: rng.between(-sp, sp) as i32,
         rate: rng.between(1, rate) as i32,
         mean: mean(rng),
+        jump: jump(rng),
         sets: [(); SETS].map(|()| gains(rng)),
     }
 }
@@ -115,6 +120,17 @@ fn mean(rng: &mut Rng) -> i32 {
         rng.pick(&[2, 2, 4, 7])
     } else {
         within32(rng, MEAN.least, MEAN.most)
+    }
+}
+
+/// How far a sample may lie from the one before it: not further than samples often do, of any size, or
+/// any distance, often the least or the most.
+fn jump(rng: &mut Rng) -> i32 {
+    let near = rng.pick(&[3, 100, 1_000, 5_000, 100_000]);
+    if rng.one_in(2) {
+        rng.between(1, near) as i32
+    } else {
+        within32(rng, JUMP.least, JUMP.most)
     }
 }
 
@@ -169,10 +185,13 @@ fn any_place(rng: &mut Rng) -> (usize, Row) {
     (rng.pick(&choices), row)
 }
 
-/// A text of these settings, in any of the forms that say them whole.
+/// A text of these settings, in any of the forms that say them whole, of which one in two is the first
+/// and shortest.
 pub fn settings_text(rng: &mut Rng, settings: &Settings) -> Vec<u8> {
-    let whole = Form::ALL.into_iter().filter(|form| form.says(settings) == *settings);
-    rng.pick(&whole.collect::<Vec<Form>>()).text(settings)
+    let says = |form: &Form| form.says(settings) == *settings;
+    let whole: Vec<Form> = Form::ALL.into_iter().filter(says).collect();
+    let form = if rng.one_in(2) { whole[0] } else { rng.pick(&whole) };
+    form.text(settings)
 }
 
 /// A text of these settings in any form, whatever that leaves out.
@@ -202,6 +221,7 @@ pub fn record(rng: &mut Rng) -> Loop {
         y: if primed { within(rng, -Loop::Y, Loop::Y) } else { 0 },
         window: window(rng, w, seen),
         seen,
+        last_raw: if primed { last_raw(rng, w) } else { 0 },
         last,
         last_command: None,
     };
@@ -234,6 +254,14 @@ fn window(rng: &mut Rng, w: i32, seen: usize) -> [i32; WINDOW] {
     window
 }
 
+/// The last kept raw temperature of a primed record: about the setpoint, anywhere, or 0. No rule ties it
+/// to the window.
+fn last_raw(rng: &mut Rng, w: i32) -> i32 {
+    let about = in_range(w + rng.between(-100, 100) as i32);
+    let any = within32(rng, LEAST_PV, MOST_PV);
+    rng.pick(&[about, about, any, any, 0])
+}
+
 /// This record with one to three of its numbers and flags changed, most of them against a rule.
 pub fn doubtful(rng: &mut Rng, record: &Loop) -> Loop {
     let mut record = *record;
@@ -246,7 +274,7 @@ pub fn doubtful(rng: &mut Rng, record: &Loop) -> Loop {
 /// Changes one thing.
 fn spoil(rng: &mut Rng, record: &mut Loop) {
     let Settings { lo, hi, .. } = record.settings;
-    match rng.below(16) {
+    match rng.below(19) {
         0 => record.settings = doubtful_settings(rng),
         1 => record.mode = Mode::Manual,
         2 => record.pending = !record.pending,
@@ -262,6 +290,9 @@ fn spoil(rng: &mut Rng, record: &mut Loop) {
         12 => record.window[WINDOW - 1] = within32(rng, LEAST_PV, MOST_PV),
         13 => record.settings.mean = outside32(rng, MEAN.least, MEAN.most),
         14 => record.seen = rng.pick(&[0, WINDOW - 1, WINDOW + 1, 2 * WINDOW, usize::MAX]),
+        15 => record.settings.jump = outside32(rng, JUMP.least, JUMP.most),
+        16 => record.last_raw = outside32(rng, LEAST_PV, MOST_PV),
+        17 => record.last_raw = within32(rng, LEAST_PV, MOST_PV),
         _ => record.last = 0,
     }
 }
@@ -312,8 +343,51 @@ fn target_nearby(rng: &mut Rng, record: &Loop) -> Command {
     }
 }
 
-/// A temperature: near the working setpoint, near the filter, or anywhere; seldom out of range.
+/// A temperature: most are near enough to the one before, where that is tested; some lie at the edge of
+/// the jump or just past it, and some anywhere.
 fn temperature(rng: &mut Rng, record: &Loop) -> i32 {
+    let any = any_temperature(rng, record);
+    match compared_with(record) {
+        Some(before) if !rng.one_in(8) => beside(rng, before, record.settings.jump, any),
+        _ => any,
+    }
+}
+
+/// The temperature that the next sample of this record is compared with, if it is with any.
+fn compared_with(record: &Loop) -> Option<i32> {
+    let tested = record.mode == Mode::Automatic && record.primed;
+    Some(record.last_raw).filter(|_| tested)
+}
+
+/// A temperature beside the one before: where the range lets it, now and then exactly a jump away or
+/// one more; else this one, or as far toward it as the jump goes.
+fn beside(rng: &mut Rng, before: i32, jump: i32, pv: i32) -> i32 {
+    let edge = before.saturating_add(at_the_edge(rng, jump));
+    if rng.one_in(4) && Loop::TEMPERATURES.contains(&edge) {
+        edge
+    } else {
+        toward(before, pv, jump)
+    }
+}
+
+/// A jump up or down, or one more.
+fn at_the_edge(rng: &mut Rng, jump: i32) -> i32 {
+    rng.pick(&[jump, jump + 1]) * rng.pick(&[1, -1])
+}
+
+/// The temperature on the way from one to another that is at most a jump away.
+fn toward(before: i32, pv: i32, jump: i32) -> i32 {
+    before.saturating_add(pv.saturating_sub(before).clamp(-jump, jump))
+}
+
+/// A temperature in range that this record takes.
+pub fn good_temperature(rng: &mut Rng, record: &Loop) -> i32 {
+    let pv = within32(rng, LEAST_PV, MOST_PV);
+    compared_with(record).map_or(pv, |before| toward(before, pv, record.settings.jump))
+}
+
+/// A temperature near the working setpoint, near the filter, or anywhere; seldom out of range.
+fn any_temperature(rng: &mut Rng, record: &Loop) -> i32 {
     let distance = rng.pick(&[3, 100, 5_000]);
     let noise = rng.between(-distance, distance) as i32;
     let measured = (record.y / Loop::F) as i32;
@@ -456,13 +530,26 @@ pub const MALFORMED_DELIVERIES: [&[u8]; 52] = [
     b"number=1 command=sample value=\xb480 second=0",
 ];
 
-/// Temperatures in range for an automatic loop of these settings: it starts near sp and wanders,
-/// with a leap now and then; one list in three rests between, long enough for the filter to settle.
+/// Temperatures that a fresh loop of these settings takes in automatic: they start near sp and wander,
+/// with a leap now and then, as far as the jump lets them; one list in three rests between, long enough
+/// for the filter to settle.
 pub fn samples(rng: &mut Rng, settings: &Settings, count: usize) -> Vec<i32> {
+    wander(rng, settings, settings.sp, count)
+}
+
+/// The same for this record: where that is tested, they start near enough to the last one.
+pub fn samples_for(rng: &mut Rng, record: &Loop, count: usize) -> Vec<i32> {
+    let start = compared_with(record).unwrap_or(record.settings.sp);
+    wander(rng, &record.settings, start, count)
+}
+
+/// Temperatures after this one, each at most a jump away from the one before.
+fn wander(rng: &mut Rng, settings: &Settings, start: i32, count: usize) -> Vec<i32> {
     let reach = rng.pick(&[2, 50, 2_000, 1_000_000]);
     let rest = rng.pick(&[1, 1, 30]);
-    let mut pv = settings.sp;
-    let mut wander = |rng: &mut Rng| {
+    let mut before = start;
+    let mut next = |rng: &mut Rng| {
+        let mut pv = before;
         if rng.one_in(rest) {
             pv = in_range(pv + rng.between(-reach, reach) as i32);
         }
@@ -472,9 +559,36 @@ pub fn samples(rng: &mut Rng, settings: &Settings, count: usize) -> Vec<i32> {
         if rng.one_in(200) {
             pv = within32(rng, LEAST_PV, MOST_PV);
         }
-        pv
+        before = toward(before, pv, settings.jump);
+        before
     };
-    (0..count).map(|_| wander(rng)).collect()
+    (0..count).map(|_| next(rng)).collect()
+}
+
+/// Temperatures for this record, with up to three among them that lie at the edge of the jump or just
+/// past it, anywhere, or out of range: some of these are refused, 4 or 19, and so may be what follows.
+pub fn doubtful_samples(rng: &mut Rng, record: &Loop, count: usize) -> Vec<i32> {
+    let mut samples = samples_for(rng, record, count);
+    for _ in 0..rng.below(4).min(count) {
+        let place = rng.below(count);
+        let before = if place == 0 { record.last_raw } else { samples[place - 1] };
+        let edge = before.saturating_add(at_the_edge(rng, record.settings.jump));
+        let any = within32(rng, LEAST_PV, MOST_PV);
+        let out = outside32(rng, LEAST_PV, MOST_PV);
+        samples[place] = match rng.below(6) {
+            0 => out,
+            1 => any,
+            _ if Loop::TEMPERATURES.contains(&edge) => edge,
+            _ => any,
+        };
+    }
+    samples
+}
+
+/// Such temperatures for an oven of these settings, of seven digits at most, as a sample file has them.
+pub fn doubtful_oven_samples(rng: &mut Rng, settings: &Settings, count: usize) -> Vec<i32> {
+    let samples = doubtful_samples(rng, &Loop::make(settings).1, count);
+    samples.into_iter().map(|raw| raw.clamp(-9_999_999, 9_999_999)).collect()
 }
 
 /// What the program delivers for its samples: "automatic as number 1 and the samples from number 2

@@ -1,5 +1,5 @@
 //! 01, "What a loop remembers" and "The law, one command at a time", with the mean of request 7
-//! "ahead of the filter".
+//! "ahead of the filter" and the refusal of a wild reading, request 8.
 
 use crate::refusal::Refusal;
 use crate::settings::{self, GainSet, Settings, WINDOW};
@@ -18,7 +18,7 @@ pub enum Mode {
 /// A command with its values. Two are the same when their values are, too.
 #[derive(Debug, Clone, Copy, PartialEq, Eq)]
 pub enum Command {
-    /// A temperature, the raw one: "code 4 tests the raw one".
+    /// A temperature, the raw one: "code 4 tests the raw one", and so does code 19.
     Sample(i32),
     /// "Manual, not pending; u stays."
     Hold,
@@ -67,6 +67,9 @@ pub struct Loop {
     pub window: [i32; WINDOW],
     /// How many of its places are filled: the kept samples, so long as they are at most 128.
     pub seen: usize,
+    /// The last kept raw temperature, from which a sample in automatic may not lie too far: a field
+    /// of its own, "0 while not primed".
+    pub last_raw: i32,
     /// The last number kept, 0 before the first.
     pub last: u32,
     /// The command kept under that number.
@@ -97,6 +100,15 @@ pub fn round_over(x: i64, n: i64) -> i64 {
 pub fn obey(record: &mut Loop, command: Command) -> Result<(), Refusal> {
     record.check()?;
     record.content(command)?;
+    record.step(command);
+    Ok(())
+}
+
+/// The plain law without the rule of request 8, for tests that compare the two: no reading is wild,
+/// and all else is as in [`obey`].
+pub fn obey_any_reading(record: &mut Loop, command: Command) -> Result<(), Refusal> {
+    record.check()?;
+    record.content_after(None, command)?;
     record.step(command);
     Ok(())
 }
@@ -133,6 +145,7 @@ impl Loop {
             y: 0,
             window: [0; WINDOW],
             seen: 0,
+            last_raw: 0,
             last: 0,
             last_command: None,
         }
@@ -175,6 +188,7 @@ impl Loop {
             && (-Self::B..=Self::B).contains(&self.integral)
             && self.filter_in_order()
             && self.window_in_order()
+            && self.last_raw_in_order()
             && !(self.pending && self.mode == Mode::Manual)
             && self.last_command.is_none() == (self.last == 0);
         if kept {
@@ -197,15 +211,33 @@ impl Loop {
             && self.window[self.seen..].iter().all(|&raw| raw == 0)
     }
 
+    /// Request 8: "The last kept raw temperature joins the record, within ±1,000,000, and 0 while not
+    /// primed."
+    fn last_raw_in_order(&self) -> bool {
+        Self::TEMPERATURES.contains(&self.last_raw) && (self.primed || self.last_raw == 0)
+    }
+
     /// The output limits lo..hi.
     fn limits(&self) -> RangeInclusive<i32> {
         self.settings.lo..=self.settings.hi
     }
 
-    /// "then content, with 6 before 5 and 7 before 8"
+    /// The content of a command that comes next.
     pub(crate) fn content(&self, command: Command) -> Result<(), Refusal> {
+        self.content_after(self.kept_before(), command)
+    }
+
+    /// The raw temperature that the next sample is compared with. "the first sample [is] exempt": it
+    /// is the one that finds the loop not primed.
+    pub(crate) fn kept_before(&self) -> Option<i32> {
+        self.primed.then_some(self.last_raw)
+    }
+
+    /// "then content, with 6 before 5 and 7 before 8", of a command that comes after a sample of this
+    /// raw temperature, or after none.
+    fn content_after(&self, before: Option<i32>, command: Command) -> Result<(), Refusal> {
         match command {
-            Command::Sample(raw) if !Self::TEMPERATURES.contains(&raw) => Err(Refusal::Temperature),
+            Command::Sample(raw) => self.reading(before, raw),
             Command::Put(_) if self.mode == Mode::Automatic => Err(Refusal::PutWhileAutomatic),
             Command::Put(x) if !self.limits().contains(&x) => Err(Refusal::PutOutside),
             Command::Target { target, .. } if !Self::TEMPERATURES.contains(&target) => {
@@ -213,6 +245,22 @@ impl Loop {
             }
             Command::Target { rate, .. } if !Self::RATES.contains(&rate) => Err(Refusal::Rate),
             Command::Set(k) if !Self::SETS.contains(&k) => Err(Refusal::NoSuchSet),
+            _ => Ok(()),
+        }
+    }
+
+    /// "In automatic, a sample further than *jump* from the last kept raw temperature is refused, code
+    /// 19, tested after 4. Manual mode and the first sample are exempt."
+    pub(crate) fn reading(&self, before: Option<i32>, raw: i32) -> Result<(), Refusal> {
+        if !Self::TEMPERATURES.contains(&raw) {
+            return Err(Refusal::Temperature);
+        }
+        match before {
+            Some(before)
+                if self.mode == Mode::Automatic && (raw - before).abs() > self.settings.jump =>
+            {
+                Err(Refusal::WildReading)
+            }
             _ => Ok(()),
         }
     }
@@ -282,11 +330,13 @@ impl Loop {
         }
     }
 
-    /// "The window takes every kept sample, in manual too", and the oldest leaves it.
+    /// "The window takes every kept sample, in manual too", and the oldest leaves it. The last kept raw
+    /// temperature "follows manual samples too".
     fn take(&mut self, raw: i32) {
         self.window.rotate_right(1);
         self.window[0] = raw;
         self.seen = WINDOW.min(self.seen + 1);
+        self.last_raw = raw;
     }
 
     /// "mean over the last m temperatures [..]. Until m are seen, it is over those seen. The sum is

@@ -1,6 +1,7 @@
 //! A temperature loop in ordinary Rust, written from document 01 ("The exact rules and the build")
 //! and the requests of document 02 that have landed: request 3 ("Mirrored ovens disagree by one"),
-//! request 5 ("Sixteen gain sets") and request 7 ("Moving mean ahead of the filter").
+//! request 5 ("Sixteen gain sets"), request 7 ("Moving mean ahead of the filter") and request 8
+//! ("Refuse a wild reading").
 //!
 //! It is a second opinion: tests compare its answers, and the whole output of its two programs,
 //! with those of the proved ones. So it says the papers as plainly as it can, sentence by sentence,
@@ -22,7 +23,10 @@
 //! | 5, the number of sets and the table | [`settings`] |
 //! | 7, the row of the mean | [`settings`] |
 //! | 7, the window and the mean | [`law`] |
-//! | 5 and 7, the four forms of the text | [`text`], [`form`] |
+//! | 8, the row of the jump | [`settings`] |
+//! | 8, the last kept raw temperature, code 19 | [`law`], [`refusal`] |
+//! | 8, the sample before in a replay | [`replay`] |
+//! | 5, 7 and 8, the six forms of the text | [`text`], [`form`] |
 //!
 //! [`rng`] and [`gen`] make the random and hostile inputs of the tests, which
 //! `cargo test --offline --release` runs; a random test that fails tells its seed. [`by_hand`]

@@ -66,8 +66,8 @@ impl Mirror {
     }
 
     /// "outputs and integral with the other sign; w, y as the request says. Last commands are
-    /// mirrored too." The temperatures of the window are flipped where "temperatures" are. None where
-    /// the last command has no mirror.
+    /// mirrored too." The temperatures of the window and the last raw one are flipped where
+    /// "temperatures" are. None where the last command has no mirror.
     pub fn record(self, record: &Loop) -> Option<Loop> {
         let last_command = match record.last_command {
             Some(command) => Some(self.command(command)?),
@@ -81,6 +81,7 @@ impl Mirror {
             integral: record.integral.saturating_neg(),
             y: self.filter(record.y),
             window: record.window.map(|raw| self.temperature(raw)),
+            last_raw: self.temperature(record.last_raw),
             last_command,
             ..*record
         })
@@ -95,7 +96,7 @@ impl Mirror {
         }
     }
 
-    /// sp, w, the target and the window's temperatures that the record holds.
+    /// sp, w, the target, the window's temperatures and the last raw one that the record holds.
     fn temperature(self, number: i32) -> i32 {
         match self {
             Mirror::OfAction => number,

@@ -38,6 +38,7 @@ pub fn serve(record: &mut Loop, samples: &[u8]) -> String {
 
 /// The output after one line, or the code of its refusal: "A malformed sample line, or a last one
 /// without its line feed, is 14; else a sample past the last number is 13, and one out of range 4."
+/// A wild one is 19.
 fn sample(record: &mut Loop, line: Option<&[u8]>) -> Result<i32, i32> {
     let pv = line.and_then(decimal::setting).ok_or_else(|| Refusal::LineForm.code())?;
     if record.last == u32::MAX {

@@ -1,6 +1,6 @@
-//! The codes of 01's table under "Numbered delivery".
+//! The codes of 01's table under "Numbered delivery", and that of request 8.
 
-/// Why a call is refused. Each case has 01's number, and its words.
+/// Why a call is refused. Each case has its paper's number, and its words.
 #[derive(Debug, Clone, Copy, PartialEq, Eq)]
 pub enum Refusal {
     /// "number below last, or number 0"
@@ -39,6 +39,8 @@ pub enum Refusal {
     BytesAfter = 17,
     /// "writer: buffer too short"
     BufferShort = 18,
+    /// Request 8: "a sample further than *jump* from the last kept raw temperature"
+    WildReading = 19,
 }
 
 impl Refusal {

@@ -9,7 +9,7 @@ pub struct Replayed {
     /// 0, or 01's code of the refusal.
     pub code: i32,
     /// "the place of the first bad sample. Places are counted from 0; for every code but 4 the
-    /// place is 0."
+    /// place is 0." Request 8: 19 is reported "with its code and place", too.
     pub place: usize,
     /// How many samples were kept: all of them, or none on a refusal.
     pub count: usize,
@@ -34,8 +34,8 @@ pub fn replay(record: &mut Loop, first: u32, samples: &[i32], outputs: &mut [i32
     Replayed { code: 0, place: 0, count: samples.len() }
 }
 
-/// "Order: 10; first number 0 or at most last: 1; above last + 1: 3; 12; 13; then 4, with the place
-/// of the first bad sample."
+/// "Order: 10; first number 0 or at most last: 1; above last + 1: 3; 12; 13; then 4", and with it 19,
+/// each with its place.
 fn judge(
     record: &Loop,
     first: u32,
@@ -56,8 +56,16 @@ fn judge(
     if samples.len() as u64 > u64::from(numbers_left) {
         return Err((Refusal::NumbersUsedUp, 0));
     }
-    match samples.iter().position(|pv| !Loop::TEMPERATURES.contains(pv)) {
-        Some(place) => Err((Refusal::Temperature, place)),
-        None => Ok(()),
+    judge_samples(record, samples)
+}
+
+/// "In a replay the test uses the sample before, and the earliest bad sample is reported with its code
+/// and place."
+fn judge_samples(record: &Loop, samples: &[i32]) -> Result<(), (Refusal, usize)> {
+    let mut before = record.kept_before();
+    for (place, &raw) in samples.iter().enumerate() {
+        record.reading(before, raw).map_err(|refusal| (refusal, place))?;
+        before = Some(raw);
     }
+    Ok(())
 }

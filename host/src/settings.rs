@@ -1,5 +1,5 @@
-//! 01, "Units": the settings, with the sixteen gain sets of request 5 and the mean of request 7, and
-//! the one table of their ranges.
+//! 01, "Units": the settings, with the sixteen gain sets of request 5, the mean of request 7 and the
+//! jump of request 8, and the one table of their ranges.
 
 use crate::refusal::Refusal;
 
@@ -11,12 +11,12 @@ pub const SETS: usize = 16;
 pub const WINDOW: usize = 128;
 
 /// How many rows of the table stand once, before those of the gain sets.
-const ONCE: usize = 7;
+const ONCE: usize = 8;
 
 /// How many rows of the table stand in each gain set.
 const GAINS: usize = 5;
 
-/// How many lines a text has that names the mean and so many gain sets.
+/// How many lines a text has that names the mean, the jump and so many gain sets.
 pub const fn lines_with(sets: usize) -> usize {
     ONCE + GAINS * sets
 }
@@ -56,6 +56,8 @@ pub struct Settings {
     pub rate: i32,
     /// Of how many temperatures the law reads the mean: "the last m".
     pub mean: i32,
+    /// How far a sample in automatic may lie from the one kept before it.
+    pub jump: i32,
     /// The gain sets, from 0 on.
     pub sets: [GainSet; SETS],
 }
@@ -82,9 +84,13 @@ const fn row(letters: &'static str, least: i32, most: i32) -> Row {
     Row { letters, least, most }
 }
 
-/// The row of the mean, the one whose line a text may leave out. Request 7: "One settings line,
-/// mean, follows rate".
+/// The row of the mean, whose line a text may leave out. Request 7: "One settings line, mean, follows
+/// rate".
 pub const MEAN: Row = row("mean", 1, WINDOW as i32);
+
+/// The row of the jump, whose line a text may leave out, too. Request 8: "jump is 1 to 2,000,000, a
+/// settings line after mean".
+pub const JUMP: Row = row("jump", 1, 2_000_000);
 
 /// "The ranges of the settings are one constant table of rows, which reader, writer and maker all
 /// consult."
@@ -100,6 +106,7 @@ pub const ROWS: [Row; ONCE + GAINS] = [
     row("sp", -1_000_000, 1_000_000),
     row("rate", 1, 2_000_000),
     MEAN,
+    JUMP,
     row("kp", 0, 4_194_304),
     row("ki", 0, 4_194_304),
     row("kd", 0, 4_194_304),
@@ -126,7 +133,7 @@ impl Place {
     }
 }
 
-/// The place of every value, in the order of the text: "action, lo, hi, out, sp, rate", the mean,
+/// The place of every value, in the order of the text: "action, lo, hi, out, sp, rate", mean, jump,
 /// "then kp0 ki0 kd0 alpha0 kt0, then the same" for each other set.
 pub fn places() -> impl Iterator<Item = Place> {
     let once = ROWS.into_iter().take(ONCE).map(|row| Place { row, set: None });
@@ -139,8 +146,8 @@ impl Settings {
     pub fn values(&self) -> [i32; LINES] {
         let mut values = [0; LINES];
         let (once, gains) = values.split_at_mut(ONCE);
-        let Settings { action, lo, hi, out, sp, rate, mean, .. } = *self;
-        once.copy_from_slice(&[action, lo, hi, out, sp, rate, mean]);
+        let Settings { action, lo, hi, out, sp, rate, mean, jump, .. } = *self;
+        once.copy_from_slice(&[action, lo, hi, out, sp, rate, mean, jump]);
         for (place, set) in gains.chunks_exact_mut(GAINS).zip(&self.sets) {
             place.copy_from_slice(&[set.kp, set.ki, set.kd, set.alpha, set.kt]);
         }
@@ -158,6 +165,7 @@ impl Settings {
             sp: once[4],
             rate: once[5],
             mean: once[6],
+            jump: once[7],
             ..Settings::default()
         };
         for (set, gains) in settings.sets.iter_mut().zip(gains.chunks_exact(GAINS)) {

@@ -1,18 +1,21 @@
-//! 01, "Settings text", in the four forms of requests 5 and 7: the reader and the writer.
+//! 01, "Settings text", in the six forms of requests 5, 7 and 8: the reader and the writer.
 
 use crate::decimal;
 use crate::refusal::{code, Refusal};
-use crate::settings::{lines_with, places, Place, Settings, LINES, MEAN};
+use crate::settings::{lines_with, places, Place, Row, Settings, JUMP, LINES, MEAN};
 
 /// How many gain sets a text of 01 names: with request 5 it is the short form, which "is still
 /// read".
 pub const SHORT_SETS: usize = 4;
 
-/// How many lines the short form has, that of the mean among them.
+/// How many lines the short form has, those of the mean and of the jump among them.
 pub const SHORT_LINES: usize = lines_with(SHORT_SETS);
 
 /// "a text whose line after rate begins with kp0 is read as mean 1"
 pub const MEAN_LEFT_OUT: i32 = 1;
+
+/// "a text may have neither line, mean alone, or both, and one without jump means 2,000,000"
+pub const JUMP_LEFT_OUT: i32 = 2_000_000;
 
 /// What the reader answers.
 #[derive(Debug, Clone, Copy, PartialEq, Eq)]
@@ -48,8 +51,8 @@ pub fn read(text: &[u8]) -> Reading {
 /// are counted as they stand: one that the text leaves out has no number.
 ///
 /// "26 or 86 lines are good, nothing between": any byte after the short form "is tested as line 27
-/// is, 14 before 15, and on to line 86; 17 comes only after the last line". Request 7: "with the
-/// line request 5's 26 and 27 are one more".
+/// is, 14 before 15, and on to line 86; 17 comes only after the last line". With the line of the mean
+/// these numbers are one more, and with that of the jump two.
 fn parse(text: &[u8]) -> Result<Settings, (Refusal, usize)> {
     let mut lines = text.split_inclusive(|&byte| byte == b'\n').peekable();
     let mut values = [0; LINES];
@@ -58,8 +61,9 @@ fn parse(text: &[u8]) -> Result<Settings, (Refusal, usize)> {
         if index == SHORT_LINES && lines.peek().is_none() {
             return accepted(short(&values));
         }
-        if place.row == MEAN && lines.peek().map_or(false, |line| line.starts_with(b"kp0")) {
-            values[index] = MEAN_LEFT_OUT;
+        let at_kp0 = lines.peek().map_or(false, |line| line.starts_with(b"kp0"));
+        if let (Some(meant), true) = (left_out(&place.row), at_kp0) {
+            values[index] = meant;
             continue;
         }
         number += 1;
@@ -70,6 +74,15 @@ fn parse(text: &[u8]) -> Result<Settings, (Refusal, usize)> {
         return Err((Refusal::BytesAfter, 0));
     }
     accepted(Settings::from_values(&values))
+}
+
+/// What a text means that goes on with kp0 instead of the line of this row, if it may.
+fn left_out(row: &Row) -> Option<i32> {
+    match *row {
+        MEAN => Some(MEAN_LEFT_OUT),
+        JUMP => Some(JUMP_LEFT_OUT),
+        _ => None,
+    }
 }
 
 /// "A text that ends after 26 lines is still read, with sets 4 to 15 equal to set 0."
@@ -119,7 +132,7 @@ fn fill(settings: &Settings, buffer: &mut [u8]) -> Result<usize, Refusal> {
 }
 
 /// The lines of any settings record, in range or not. "Writing always gives 86 lines", and with
-/// request 7 one more: "The writer always gives it".
+/// requests 7 and 8 two more: "The writer always gives it", and "The writer always gives jump".
 pub fn lines_of(settings: &Settings) -> String {
     let line = |(place, value): (Place, i32)| format!("{}={value}\n", place.key());
     places().zip(settings.values()).map(line).collect()

@@ -97,6 +97,7 @@ fn the_log_ends_in_this_record() {
         y: fine(476.25),
         window,
         seen: 7,
+        last_raw: 476,
         last: 10,
         last_command: Some(Sample(476)),
     };

@@ -60,6 +60,19 @@ fn a_refused_number_stays_free() {
     assert_eq!(deliver(&mut record, 4, Sample(480)), answer(0, 70, 4));
 }
 
+/// So does the number of a wild reading: with a jump of 10, 491 is too far from 480 in automatic.
+#[test]
+fn the_number_of_a_wild_reading_stays_free() {
+    let mut record = two_kept();
+    record.settings.jump = 10;
+    assert_eq!(deliver(&mut record, 3, Automatic), answer(0, 70, 3));
+    assert_eq!(unkept(&record, 4, Sample(491)), answer(19, 70, 3));
+    assert_eq!(unkept(&record, 4, Sample(491)), answer(19, 70, 3), "and is refused again");
+    assert_eq!(unkept(&record, 5, Sample(480)), answer(3, 70, 3));
+    assert_eq!(deliver(&mut record, 4, Sample(490)), answer(0, 70, 4));
+    assert_eq!(unkept(&record, 4, Sample(491)), answer(2, 70, 4), "now it is a reuse");
+}
+
 #[test]
 fn a_repeat_needs_every_value() {
     let aim = |target, rate| Command::Target { target, rate };
@@ -145,10 +158,11 @@ impl Walk {
     }
 }
 
-/// "The end state is the law's after the kept commands, each given once."
+/// "The end state is the law's after the kept commands, each given once." "Demand 3's law includes this
+/// rule": some samples of the lists are wild.
 #[test]
 fn any_list_is_walked_as_demand_3_says() {
-    let mut kept = 0;
+    let (mut kept, mut wild) = (0, 0);
     for_each_seed(500, |rng| {
         let settings = gen::settings(rng);
         let list = gen::deliveries(rng, &settings, 300);
@@ -158,12 +172,13 @@ fn any_list_is_walked_as_demand_3_says() {
             let expected = walk.answer(delivery);
             let answered = deliver(&mut record, delivery.number, delivery.command);
             assert_eq!(answered, expected, "{delivery:?}");
+            wild += usize::from(answered.code == 19);
         }
         let end = Loop { last: walk.kept, last_command: walk.latest, ..walk.record };
         assert_eq!(record, end);
         kept += walk.kept;
     });
-    assert!(kept > 50_000, "{kept} kept");
+    assert!(kept > 50_000 && wild > 2_000, "{kept} kept, {wild} wild");
 }
 
 /// Every list gives the same end state with each delivery doubled: "a second delivery of it must

@@ -1,4 +1,5 @@
-//! The files below examples/: what the README shows of them, and what a mean does for a noisy sensor.
+//! The files below examples/: what the README shows of them, what a mean does for a noisy sensor, and a
+//! jump for a loose connector.
 
 // Cut lines and missing files are the matter of the other tests of the programs.
 #[allow(dead_code)]
@@ -24,8 +25,11 @@ const OVENS: [(&str, &str); 5] = [
 ];
 
 /// The settings and the deliveries of each journal.
-const JOURNALS: [(&str, &str); 2] =
-    [("c.settings", "retried.deliveries"), ("sixteen.settings", "sixteen.deliveries")];
+const JOURNALS: [(&str, &str); 3] = [
+    ("c.settings", "retried.deliveries"),
+    ("sixteen.settings", "sixteen.deliveries"),
+    ("loose.settings", "loose.deliveries"),
+];
 
 /// The peer's outputs for an oven of the examples.
 fn outputs(settings: &str, samples: &str) -> Vec<i32> {
@@ -64,6 +68,37 @@ fn a_mean_calms_the_power_of_a_noisy_cooler() {
     let [with, without] = ["noisy.settings", "noisy-plain.settings"].map(example);
     let [with, without] = [with, without].map(|text| String::from_utf8(text).expect("text"));
     assert_eq!(with.replace("mean=8\n", ""), without, "they differ by that line alone");
+}
+
+/// A wild reading leaves the power as it is, and its number to the next sample. A real step is refused
+/// until hold, a sample, automatic; then the samples go on from there.
+#[test]
+fn a_jump_keeps_a_loose_connector_from_the_power() {
+    let written = journal::run(&example("loose.settings"), &example("loose.deliveries"));
+    let answers: Vec<&str> =
+        written.lines().filter_map(|line| line.split(" code=").nth(1)).collect();
+    let expected = [
+        "0 output=350000 last=1",
+        "0 output=350000 last=2",
+        "0 output=350768 last=3",
+        "0 output=350313 last=4",
+        "19 output=350313 last=4",
+        "0 output=350501 last=5",
+        "0 output=350562 last=6",
+        "19 output=350562 last=6",
+        "19 output=350562 last=6",
+        "0 output=350562 last=7",
+        "0 output=350562 last=8",
+        "0 output=350562 last=9",
+        "0 output=350562 last=10",
+        "0 output=397479 last=11",
+    ];
+    assert_eq!(answers, expected);
+    let without =
+        String::from_utf8(example("loose.settings")).expect("text").replace("jump=500\n", "");
+    let driven = journal::run(without.as_bytes(), &example("loose.deliveries"));
+    let wild = driven.lines().nth(4).expect("the wild reading");
+    assert!(wild.ends_with(" code=0 output=1000000 last=5"), "without the jump: {wild}");
 }
 
 #[test]

@@ -2,9 +2,10 @@
 
 use host::by_hand::{amounts, Halves};
 use host::delivery::{deliver, Delivery};
-use host::form::Form;
+use host::form::{AfterRate, Form};
 use host::gen;
 use host::law::{Command, Loop, Mode};
+use host::replay::replay;
 use host::rng::{for_each_seed, Rng};
 use host::settings::{places, Settings};
 use host::text;
@@ -34,7 +35,7 @@ fn ends() -> impl Iterator<Item = (i32, i32)> {
 
 #[test]
 fn settings_are_valid_and_reach_both_ends_of_every_range() {
-    let mut reached = [(0, 0); 87];
+    let mut reached = [(0, 0); 88];
     let mut forms = [0; 2];
     for_each_seed(2_000, |rng| {
         let settings = gen::settings(rng);
@@ -55,37 +56,61 @@ fn settings_are_valid_and_reach_both_ends_of_every_range() {
 /// The form of a text that is well formed.
 fn form_of(text: &[u8]) -> Form {
     let lines: Vec<&[u8]> = text.split_inclusive(|&byte| byte == b'\n').collect();
-    let mean = lines[6].starts_with(b"mean=");
-    match lines.len() - usize::from(mean) {
-        26 => Form { mean, short: true },
-        86 => Form { mean, short: false },
+    let has = |line: usize, key: &[u8]| lines[line - 1].starts_with(key);
+    let (after_rate, optional) = match (has(7, b"mean="), has(8, b"jump=")) {
+        (false, _) => (AfterRate::Neither, 0),
+        (true, false) => (AfterRate::Mean, 1),
+        (true, true) => (AfterRate::Both, 2),
+    };
+    match lines.len() - optional {
+        26 => Form { after_rate, short: true },
+        86 => Form { after_rate, short: false },
         others => panic!("{others} lines"),
     }
 }
 
 /// Counts a text of this form.
-fn count(counts: &mut [i32; 4], form: Form) {
-    counts[2 * usize::from(form.mean) + usize::from(form.short)] += 1;
+fn count(counts: &mut [i32; 6], form: Form) {
+    counts[Form::ALL.iter().position(|&other| other == form).expect("one of the six")] += 1;
 }
 
-/// Texts of 26, 27, 86 and 87 lines, each of settings that it says whole.
+/// Texts of 26, 27, 28, 86, 87 and 88 lines, each of settings that it says whole.
 #[test]
 fn texts_are_of_each_form_and_say_their_settings() {
-    let [mut forms, mut drawn] = [[0; 4]; 2];
+    let [mut forms, mut drawn] = [[0; 6]; 2];
     for_each_seed(2_000, |rng| {
         let settings = gen::settings(rng);
         let said = gen::settings_text(rng, &settings);
         assert_eq!(text::read(&said).settings, settings);
         count(&mut forms, form_of(&said));
         let any = gen::any_form(rng, &settings);
-        let Settings { mean, sets, .. } = text::read(&any).settings;
+        let Settings { mean, jump, sets, .. } = text::read(&any).settings;
         let form = form_of(&any);
-        assert_eq!(mean, if form.mean { settings.mean } else { 1 });
+        let [has_mean, has_jump] =
+            [form.after_rate != AfterRate::Neither, form.after_rate == AfterRate::Both];
+        assert_eq!(mean, if has_mean { settings.mean } else { 1 });
+        assert_eq!(jump, if has_jump { settings.jump } else { 2_000_000 });
         assert_eq!(sets[4], settings.sets[if form.short { 0 } else { 4 }]);
         count(&mut drawn, form);
     });
     assert!(forms.iter().all(|&count| count > 100), "{forms:?}");
-    assert!(drawn.iter().all(|&count| count > 300), "{drawn:?}");
+    assert!(drawn.iter().all(|&count| count > 200), "{drawn:?}");
+}
+
+/// Jumps of every size, the ends more often than others, and in about half of the settings the one that
+/// refuses nothing.
+#[test]
+fn settings_have_jumps_of_every_size() {
+    let mut sizes = [0; 7];
+    let (mut least, mut most) = (0, 0);
+    for_each_seed(10_000, |rng| {
+        let jump = gen::settings(rng).jump;
+        sizes[(jump.to_string().len() - 1).min(6)] += 1;
+        least += i32::from(jump == 1);
+        most += i32::from(jump == 2_000_000);
+    });
+    assert!(sizes.iter().all(|&count| count > 100), "{sizes:?}");
+    assert!(least > 300 && (4_000..6_000).contains(&most), "{least} {most}");
 }
 
 /// Every mean from 1 to 128, and the ends more often than the others.
@@ -173,7 +198,7 @@ fn deliveries_reach_every_set_and_numbers_beyond() {
 
 #[test]
 fn deliveries_reach_every_command_code_and_kind_of_sample() {
-    let mut codes = [0; 10];
+    let mut codes = [0; 20];
     let mut kept = [0; 6];
     let mut samples = [0; 3];
     let mut at_limits = [0; 3];
@@ -203,16 +228,63 @@ fn deliveries_reach_every_command_code_and_kind_of_sample() {
             }
         }
     });
-    assert!(codes.iter().all(|&count| count > 30), "codes {codes:?}");
+    assert!((0..10).chain([19]).all(|code| codes[code] > 30), "codes {codes:?}");
     assert!(kept.iter().all(|&count| count > 500), "kept commands {kept:?}");
     assert!(samples.iter().all(|&count| count > 500), "manual, transfer, ordinary {samples:?}");
     assert!(at_limits.iter().all(|&count| count > 500), "between, low, high {at_limits:?}");
     assert!(repeats > 500, "{repeats} repeats");
 }
 
+/// In automatic, after the first: samples exactly a jump away on either side, one more, and far past it;
+/// and in manual, and as the first, such as would be refused otherwise.
+#[test]
+fn samples_reach_the_edges_of_the_jump() {
+    let mut distances = [0; 6];
+    let mut exempt = [0; 2];
+    for_each_delivery(|Delivered { before, command, code, after }| {
+        let jump = before.settings.jump;
+        if let (Command::Sample(raw), true) = (command, code == 19 || after.last != before.last) {
+            let away = raw - before.last_raw;
+            match (before.mode, before.primed) {
+                (Mode::Automatic, true) => {
+                    let edges = [away == jump, away == -jump, away == jump + 1, away == -jump - 1];
+                    let past = [away > jump + 1, away < -jump - 1];
+                    for (count, reached) in distances.iter_mut().zip([&edges[..], &past].concat()) {
+                        *count += i32::from(reached);
+                    }
+                }
+                (Mode::Manual, true) => exempt[0] += i32::from(away.abs() > jump),
+                (_, false) => exempt[1] += i32::from(away.abs() > jump),
+            }
+        }
+    });
+    assert!(distances.iter().all(|&count| count > 100), "{distances:?}");
+    assert!(exempt.iter().all(|&count| count > 50), "manual, first {exempt:?}");
+}
+
+/// Doubtful lists are taken, or refused 4 or 19 at their first place or at a later one, and the code
+/// that the last bad place would have is not always that of the first.
+#[test]
+fn doubtful_samples_are_refused_4_and_19_at_the_first_place_and_later() {
+    let mut counts = [[0; 2]; 3];
+    for_each_seed(5_000, |rng| {
+        let record = gen::record(rng);
+        let count = rng.below(20);
+        let samples = gen::doubtful_samples(rng, &record, count);
+        assert_eq!(samples.len(), count);
+        let first = Loop { last: 7, last_command: Some(Command::Hold), ..record };
+        let replayed = replay(&mut first.clone(), 8, &samples, &mut vec![0; count]);
+        let code = [0, 4, 19].iter().position(|&code| code == replayed.code).expect("one of these");
+        counts[code][usize::from(replayed.place > 0)] += 1;
+    });
+    let [[taken, 0], refused @ ..] = counts else { panic!("a place without a refusal") };
+    assert!(taken > 1_000, "{counts:?}");
+    assert!(refused.concat().iter().all(|&count| count > 50), "{counts:?}");
+}
+
 #[test]
 fn records_are_valid_and_of_every_kind() {
-    let mut kinds = [0; 13];
+    let mut kinds = [0; 17];
     for_each_seed(3_000, |rng| {
         let record = gen::record(rng);
         assert_eq!(record.check(), Ok(()));
@@ -230,6 +302,10 @@ fn records_are_valid_and_of_every_kind() {
             record.seen + 1 < record.settings.mean as usize,
             record.seen == 127,
             record.seen == 128,
+            record.settings.jump < 2_000_000,
+            record.primed && record.last_raw == 0,
+            record.last_raw.abs() == 1_000_000,
+            record.seen > 0 && record.primed && record.last_raw != record.window[0],
         ];
         for (kind, mark) in kinds.iter_mut().zip(marks) {
             *kind += i32::from(mark);
@@ -253,7 +329,7 @@ fn deliveries_and_samples_land_on_halves_of_either_sign_at_every_place() {
 #[test]
 fn doubtful_records_break_every_rule_and_some_keep_them() {
     let mut kept = 0;
-    let mut broken = [0; 13];
+    let mut broken = [0; 16];
     for_each_seed(5_000, |rng| {
         let sound = gen::record(rng);
         let record = gen::doubtful(rng, &sound);
@@ -271,6 +347,9 @@ fn doubtful_records_break_every_rule_and_some_keep_them() {
             record.window.iter().all(|raw| Loop::TEMPERATURES.contains(raw)),
             record.seen <= 128,
             record.window.iter().skip(record.seen).all(|&raw| raw == 0),
+            (1..=2_000_000).contains(&record.settings.jump),
+            Loop::TEMPERATURES.contains(&record.last_raw),
+            record.primed || record.last_raw == 0,
         ];
         for (count, rule) in broken.iter_mut().zip(rules) {
             *count += i32::from(!rule);

@@ -10,11 +10,11 @@ use host::gen;
 use host::journal::{delivery_line, parse, run};
 use host::law::{Command, Loop};
 use host::rng::for_each_seed;
-use papers::{delivered_with_mean_2, edges_told, full_c, short_c, JOURNAL_WITH_MEAN_2};
+use papers::{deliveries_of, edges_told, full_c, short_c, JOURNALS};
 
 /// The output with settings C.
-fn with_c(deliveries: &str) -> String {
-    papers::with_c(|settings| run(settings, deliveries.as_bytes()))
+fn with_c(deliveries: &[u8]) -> String {
+    papers::with_c(|settings| run(settings, deliveries))
 }
 
 /// The bench log of 01 as a journal.
@@ -38,14 +38,12 @@ number=11 command=put value=50 second=0 code=6 output=237 last=10
 number=11 command=hold value=0 second=0 code=0 output=237 last=11
 number=12 command=put value=50 second=0 code=0 output=50 last=12
 ";
-    let delivered = |line: &str| format!("{}\n", &line[..line.find(" code=").unwrap()]);
-    let deliveries: String = journal.lines().map(delivered).collect();
-    assert_eq!(with_c(&deliveries), journal);
+    assert_eq!(with_c(&deliveries_of(journal)), journal);
 }
 
 #[test]
 fn an_empty_file_writes_nothing() {
-    assert_eq!(with_c(""), "");
+    assert_eq!(with_c(b""), "");
 }
 
 /// A refused delivery is answered with its code, and the run goes on; values may be any of 32
@@ -65,16 +63,16 @@ number=1 command=set value=-1 second=0 code=9 output=100 last=0
 number=1 command=set value=15 second=0 code=0 output=100 last=1
 number=2 command=put value=0 second=0 code=0 output=0 last=2
 ";
-    let delivered = |line: &str| format!("{}\n", &line[..line.find(" code=").unwrap()]);
-    let deliveries: String = journal.lines().map(delivered).collect();
-    assert_eq!(with_c(&deliveries), journal);
+    assert_eq!(with_c(&deliveries_of(journal)), journal);
 }
 
-/// Repeats and refusals do not enter the window, manual samples do.
+/// Repeats and refusals do not enter the window, manual samples do; and a wild reading is answered 19,
+/// after which the run goes on.
 #[test]
-fn only_kept_samples_enter_the_mean() {
-    let written = run(short_c("mean=2").as_bytes(), &delivered_with_mean_2());
-    assert_eq!(written, JOURNAL_WITH_MEAN_2);
+fn the_journals_of_a_mean_and_of_a_jump() {
+    for (after_rate, journal) in JOURNALS {
+        assert_eq!(run(short_c(after_rate).as_bytes(), &deliveries_of(journal)), journal);
+    }
 }
 
 #[test]
@@ -87,9 +85,10 @@ fn a_malformed_line_ends_the_run_with_14_and_its_line() {
         assert_eq!(output, format!("{answer}refused 14 2\n"), "{}", line.escape_ascii());
         assert_eq!(parse(line), None);
     }
-    assert_eq!(with_c(good), "refused 14 1\n", "its line feed is missing");
-    assert_eq!(with_c(&format!("{good}\n{good}")), format!("{answer}refused 14 2\n"));
-    assert_eq!(with_c("\n"), "refused 14 1\n");
+    assert_eq!(with_c(good.as_bytes()), "refused 14 1\n", "its line feed is missing");
+    let twice = format!("{good}\n{good}");
+    assert_eq!(with_c(twice.as_bytes()), format!("{answer}refused 14 2\n"));
+    assert_eq!(with_c(b"\n"), "refused 14 1\n");
 }
 
 #[test]

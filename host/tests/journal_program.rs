@@ -11,17 +11,20 @@ use host::law::Command;
 use host::rng::Rng;
 use host::settings::Settings;
 use host::{example, gen, journal};
-use papers::{delivered_with_mean_2, edges_told, short_c, FORMS, JOURNAL_WITH_MEAN_2, MEANS};
+use papers::{deliveries_of, edges_told, short_c, FORMS, JOURNALS, JUMPS, MEANS};
+use std::sync::atomic::{AtomicUsize, Ordering::Relaxed};
 
 fn journal_agrees(program: &Program, settings: &[u8], deliveries: &[u8]) {
     same("journal", &program.run(settings, deliveries), &journal::run(settings, deliveries));
 }
 
-/// A list of so many deliveries to a loop of these settings.
-fn list_agrees(program: &Program, rng: &mut Rng, settings: &Settings, count: usize) {
-    let deliveries = gen::deliveries(rng, settings, count);
+/// A list of so many deliveries to a loop of these settings; gives the number of wild readings in it.
+fn list_agrees(program: &Program, rng: &mut Rng, settings: &Settings, count: usize) -> usize {
+    let deliveries = gen::deliveries_file(&gen::deliveries(rng, settings, count));
     let text = gen::settings_text(rng, settings);
-    journal_agrees(program, &text, &gen::deliveries_file(&deliveries));
+    let expected = journal::run(&text, &deliveries);
+    same("journal", &program.run(&text, &deliveries), &expected);
+    expected.matches(" code=19 ").count()
 }
 
 #[test]
@@ -84,7 +87,7 @@ fn the_sets_that_26_lines_leave_out_are_set_0() {
     }
 }
 
-/// The four forms: what the papers say of each edge, and not what the peer says.
+/// The six forms: what the papers say of each edge, and not what the peer says.
 #[test]
 fn settings_at_an_edge_are_taken_or_refused_as_the_papers_say() {
     let program = Program::new("journal");
@@ -109,12 +112,14 @@ fn there_are_sixteen_sets() {
     }
 }
 
-/// Request 7, by hand: what the papers say, and not what the peer says.
+/// Requests 7 and 8, by hand: what the papers say, and not what the peer says.
 #[test]
-fn only_kept_samples_enter_the_mean() {
-    let written =
-        Program::new("journal").run(short_c("mean=2").as_bytes(), &delivered_with_mean_2());
-    same("journal", &written, JOURNAL_WITH_MEAN_2);
+fn the_journals_of_a_mean_and_of_a_jump() {
+    let program = Program::new("journal");
+    for (after_rate, journal) in JOURNALS {
+        let settings = short_c(after_rate);
+        same("journal", &program.run(settings.as_bytes(), &deliveries_of(journal)), journal);
+    }
 }
 
 /// Lists of every command whose kept samples fill the window more than twice.
@@ -129,13 +134,33 @@ fn long_lists_of_each_mean_are_answered_alike() {
     }
 }
 
+/// Lists of every command with each jump: samples at its edges, holds, automatics and other gain sets
+/// between them, and refusals whose numbers are taken by what follows.
+#[test]
+fn lists_of_each_jump_are_answered_alike() {
+    let program = Program::new("journal");
+    for jump in JUMPS {
+        let wild = AtomicUsize::new(0);
+        for_each_seed(40, |rng| {
+            let settings = Settings { jump, ..gen::settings(rng) };
+            wild.fetch_add(list_agrees(&program, rng, &settings, 400), Relaxed);
+        });
+        let wild = wild.into_inner();
+        assert!(jump > 1_000 || wild > 100, "{jump}: {wild} wild");
+        assert!(jump < 2_000_000 || wild == 0, "{jump}: {wild} wild");
+    }
+}
+
 #[test]
 fn random_deliveries_are_answered_alike() {
     let program = Program::new("journal");
+    let wild = AtomicUsize::new(0);
     for_each_seed(500, |rng| {
         let settings = gen::settings(rng);
-        list_agrees(&program, rng, &settings, 420);
+        wild.fetch_add(list_agrees(&program, rng, &settings, 420), Relaxed);
     });
+    let wild = wild.into_inner();
+    assert!(wild > 2_000, "{wild} wild");
 }
 
 #[test]

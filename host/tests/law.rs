@@ -1,4 +1,5 @@
-//! 01, "The law, one command at a time", with the halves of request 3 and the window of request 7.
+//! 01, "The law, one command at a time", with the halves of request 3, the window of request 7 and the
+//! last raw temperature of request 8.
 
 use host::by_hand::{amounts, nearest, Amounts, Halves};
 use host::example;
@@ -41,6 +42,7 @@ fn a_fresh_loop_is_as_01_lists_it() {
         y: 0,
         window: [0; 128],
         seen: 0,
+        last_raw: 0,
         last: 0,
         last_command: None,
     };
@@ -132,12 +134,13 @@ fn the_gains_are_those_of_the_set_in_force() {
 }
 
 #[test]
-fn a_manual_sample_moves_setpoint_filter_and_window_only() {
+fn a_manual_sample_moves_setpoint_filter_window_and_last_raw_only() {
     let aimed = after(example::fresh(), Command::Target { target: 400, rate: 30 });
     let sampled = after(aimed, Sample(480));
     let mut window = [0; 128];
     window[0] = 480;
-    let moved = Loop { w: 470, primed: true, y: 480 * Loop::F, window, seen: 1, ..aimed };
+    let y = 480 * Loop::F;
+    let moved = Loop { w: 470, primed: true, y, window, seen: 1, last_raw: 480, ..aimed };
     assert_eq!(sampled, moved);
 }
 
@@ -217,6 +220,7 @@ fn a_transfer_sample_reaches_the_bound_exactly() {
         sp: -1_000_000,
         rate: 1,
         mean: 1,
+        jump: 2_000_000,
         sets: [gains; 16],
     };
     let (code, fresh) = Loop::make(&settings);
@@ -317,7 +321,7 @@ fn hold_automatic_and_set_move_the_output_by_nothing() {
         let u = record.u;
         record = after(record, command);
         assert_eq!(record.u, u, "{command:?}");
-        let pv = gen::within(rng, -1_000_000, 1_000_000) as i32;
+        let pv = gen::good_temperature(rng, &record);
         record = after(record, Sample(pv));
         assert_eq!(record.u, u, "the first sample after {command:?}");
         assert!(!record.pending);
@@ -337,10 +341,11 @@ fn the_setpoint_arrives_after_exactly_the_ceiling_of_distance_over_rate() {
         record = after(record, Command::Target { target, rate });
         for _ in 0..(distance + rate - 1) / rate {
             assert_ne!(record.w, target, "not before");
-            record = after(record, Sample(rng.between(-1_000_000, 1_000_000) as i32));
+            record = after(record, Sample(gen::good_temperature(rng, &record)));
         }
         assert_eq!(record.w, target);
-        assert_eq!(after(record, Sample(0)).w, target, "and there it stays");
+        let pv = gen::good_temperature(rng, &record);
+        assert_eq!(after(record, Sample(pv)).w, target, "and there it stays");
     });
 }
 

@@ -239,7 +239,8 @@ fn sample_of_01(before: &Loop, pv: i32) -> Loop {
 }
 
 /// Samples from any record that keeps the state rules, reached or not: the record before each, its
-/// raw temperature, and the record after it but for the window, which only the mean may read.
+/// raw temperature, and the record after it but for the window and the last raw temperature, which the
+/// law of 01 does not know.
 fn for_each_sample(settle: impl Fn(&mut Loop), mut show: impl FnMut(&Loop, i32, Loop)) {
     for_each_seed(1_500, |rng| {
         let mut record = gen::record(rng);
@@ -248,9 +249,11 @@ fn for_each_sample(settle: impl Fn(&mut Loop), mut show: impl FnMut(&Loop, i32, 
             let before = record;
             let command = gen::command(rng, &record);
             let kept = obey(&mut record, command).is_ok();
-            let Loop { window, seen, .. } = before;
+            let Loop { window, seen, last_raw, .. } = before;
             match command {
-                Sample(raw) if kept => show(&before, raw, Loop { window, seen, ..record }),
+                Sample(raw) if kept => {
+                    show(&before, raw, Loop { window, seen, last_raw, ..record });
+                }
                 _ => assert_eq!((record.window, record.seen), (window, seen), "{command:?}"),
             }
         }

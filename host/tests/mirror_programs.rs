@@ -8,7 +8,7 @@ mod common;
 use common::{same, Program};
 use host::by_hand::Halves;
 use host::delivery::Delivery;
-use host::form::Form;
+use host::form::{AfterRate, Form};
 use host::mirror::{oven_line, Mirror};
 use host::rng::{for_each_seed, Rng};
 use host::settings::Settings;
@@ -25,14 +25,14 @@ fn refuses(line: &str) -> bool {
 }
 
 /// The program's output for a mirrored pair of files is a mirrored pair, line by line, and a file
-/// is refused as its mirror is, whichever forms the texts of the settings have. Gives the count of
-/// the answers.
+/// is refused as its mirror is, whichever forms the texts of the settings have. Gives the first
+/// output.
 fn outputs_mirror(
     program: &Program,
     settings: &[Vec<u8>; 2],
     files: [Vec<u8>; 2],
     answer: impl Fn(&str) -> Option<String>,
-) -> usize {
+) -> String {
     let output = written(program, &settings[0], &files[0]);
     let expected: String = output
         .lines()
@@ -40,7 +40,17 @@ fn outputs_mirror(
         .map(|line| line + "\n")
         .collect();
     same("the mirror", written(program, &settings[1], &files[1]).as_bytes(), &expected);
+    output
+}
+
+/// How many of the lines answer a line of the file.
+fn answers(output: &str) -> usize {
     output.lines().filter(|line| !refuses(line)).count()
+}
+
+/// How many wild readings a program has told, of either file.
+fn wild_readings(output: &str) -> usize {
+    output.matches(" code=19 ").count() + output.matches("refused 19 ").count()
 }
 
 /// The two files of two lists. One pair in four is spoiled, by the same stream and so at the same
@@ -67,14 +77,13 @@ fn deliveries(rng: &mut Rng, settings: &Settings) -> Vec<Delivery> {
     }
 }
 
-/// Samples for these settings, now and then with one out of range among them.
+/// Samples for these settings, now and then with some among them that are wild or out of range.
 fn samples(rng: &mut Rng, settings: &Settings) -> Vec<i32> {
-    let mut samples = gen::samples(rng, settings, 300);
-    if rng.one_in(8) {
-        let place = rng.below(samples.len());
-        samples[place] = rng.pick(&[1_000_001, -1_000_001, 9_999_999, -9_999_999]);
+    if rng.one_in(3) {
+        gen::doubtful_oven_samples(rng, settings, 300)
+    } else {
+        gen::samples(rng, settings, 300)
     }
-    samples
 }
 
 /// A mirrored pair of files, and what is delivered for the first of them: so many deliveries that
@@ -93,18 +102,20 @@ fn pairs_mirror(
 ) {
     let program = Program::new(name);
     for mirror in Mirror::BOTH {
-        let (mut answered, mut halves) = (0, Halves::default());
+        let (mut answered, mut wild, mut halves) = (0, 0, Halves::default());
         for_each_seed(200, |rng| {
             let settings = gen::settings(rng);
             let pair = draw(mirror, rng, &settings);
             let both = [settings, mirror.settings(&settings)];
             let texts = both.map(|settings| gen::settings_text(rng, &settings));
-            let count = outputs_mirror(&program, &texts, pair.files, |line| answer(mirror, line));
+            let output = outputs_mirror(&program, &texts, pair.files, |line| answer(mirror, line));
+            let count = answers(&output);
             answered += count;
+            wild += wild_readings(&output);
             halves.add_list(&settings, &pair.delivered[..pair.silent + count]);
         });
-        println!("{name}, {mirror:?}: {answered} answers, {halves:?}");
-        assert!(answered >= 10_000, "{answered} answers");
+        println!("{name}, {mirror:?}: {answered} answers, {wild} wild, {halves:?}");
+        assert!(answered >= 10_000 && wild >= 5, "{answered} answers, {wild} wild");
         assert!(halves.fewest() > 0, "{halves:?}");
     }
 }
@@ -141,7 +152,7 @@ fn mirrored_samples_get_mirrored_outputs_from_oven() {
 fn a_half_at_each_place_shows_in_what_the_programs_write() {
     let (oven, journal) = (Program::new("oven"), Program::new("journal"));
     for example in example::half_ovens() {
-        let short = Form { mean: true, short: true }.text(&example.settings);
+        let short = Form { after_rate: AfterRate::Mean, short: true }.text(&example.settings);
         let output = written(&oven, &short, &gen::sample_file(&example.samples));
         let outputs: Vec<i32> = output.lines().map(|u| u.parse().expect("an output")).collect();
         assert_eq!(outputs, example.outputs, "{:?}", example.settings);
@@ -150,7 +161,8 @@ fn a_half_at_each_place_shows_in_what_the_programs_write() {
             let texts = [short.clone(), mirrored];
             let lists = [&example.samples[..], &mirror.samples(&example.samples)];
             let files = lists.map(gen::sample_file);
-            assert_eq!(outputs_mirror(&oven, &texts, files, oven_line), outputs.len());
+            let output = outputs_mirror(&oven, &texts, files, oven_line);
+            assert_eq!(answers(&output), outputs.len());
             let files = lists.map(|list| gen::deliveries_file(&gen::sample_deliveries(list)));
             outputs_mirror(&journal, &texts, files, |line| mirror.journal_line(line));
         }

@@ -92,12 +92,12 @@ struct Replay {
     outputs: Vec<i32>,
 }
 
-/// A replay for this record, in one case of three with a wrong number, a bad sample or too few
-/// places.
+/// A replay for this record, in five cases of nine with a wrong number, a bad sample, doubtful ones or
+/// too few places.
 fn replay_for(rng: &mut Rng, record: &Loop) -> Replay {
     let count = rng.below(60);
     let mut first = record.last.wrapping_add(1);
-    let mut samples = gen::samples(rng, &record.settings, count);
+    let mut samples = gen::samples_for(rng, record, count);
     let mut places = count + rng.below(4);
     match rng.below(9) {
         0 => first = rng.pick(&[0, record.last, record.last.saturating_add(2)]),
@@ -106,6 +106,7 @@ fn replay_for(rng: &mut Rng, record: &Loop) -> Replay {
             samples.insert(rng.below(count + 1), bad);
         }
         2 => places = rng.below(count + 1),
+        3 | 4 => samples = gen::doubtful_samples(rng, record, count),
         _ => {}
     }
     let outputs = (0..places).map(|_| rng.between(-9, 9) as i32).collect();
@@ -128,8 +129,10 @@ fn a_record() -> Loop {
         y: 31_457_281,
         window,
         seen: 3,
+        last_raw: 481,
         last: 7,
         last_command: Some(Put(113)),
+        settings: Settings { jump: 77, ..example::settings() },
         ..example::fresh()
     }
 }
@@ -168,6 +171,7 @@ fn the_mirror_of_the_temperatures_flips_what_the_request_names() {
         integral: -5_930_000,
         y: -31_457_281,
         window,
+        last_raw: -481,
         last_command: Some(Put(-113)),
         ..record
     };
@@ -256,7 +260,7 @@ fn mirrored_settings_make_mirrored_loops_or_are_refused_alike() {
 #[test]
 fn the_plain_law_mirrors() {
     let mut halves = Halves::default();
-    let mut codes = [0; 10];
+    let mut codes = [0; 20];
     in_both_mirrors(1_000, |mirror, rng| {
         if let Some(mut pair) = Pair::new(mirror, gen::record(rng), &mut halves) {
             for _ in 0..60 {
@@ -268,14 +272,14 @@ fn the_plain_law_mirrors() {
         }
     });
     assert!(halves.fewest() > 0, "{halves:?}");
-    assert!([0, 4, 5, 6, 7, 8, 9].iter().all(|&code| codes[code] > 30), "{codes:?}");
+    assert!([0, 4, 5, 6, 7, 8, 9, 19].iter().all(|&code| codes[code] > 30), "{codes:?}");
 }
 
 /// Whole lists with repeats, old numbers, gaps, reused numbers and bad values, from fresh loops.
 #[test]
 fn lists_of_deliveries_mirror_from_a_fresh_loop() {
     let mut halves = Halves::default();
-    let mut codes = [0; 10];
+    let mut codes = [0; 20];
     in_both_mirrors(400, |mirror, rng| {
         let settings = gen::settings(rng);
         let fresh = Loop::make(&settings).1;
@@ -288,7 +292,7 @@ fn lists_of_deliveries_mirror_from_a_fresh_loop() {
         }
     });
     assert!(halves.fewest() > 0, "{halves:?}");
-    assert!(codes.iter().all(|&count| count > 30), "{codes:?}");
+    assert!((0..10).chain([19]).all(|code| codes[code] > 30), "{codes:?}");
 }
 
 /// "The mirrors hold of any two records that mirror each other".
@@ -310,7 +314,7 @@ fn lists_of_deliveries_mirror_from_any_record() {
 #[test]
 fn replays_mirror() {
     let mut halves = Halves::default();
-    let mut codes = [0; 14];
+    let mut codes = [0; 20];
     in_both_mirrors(2_000, |mirror, rng| {
         let mut start = gen::record(rng);
         if rng.one_in(2) {
@@ -325,7 +329,7 @@ fn replays_mirror() {
         }
     });
     assert!(halves.fewest() > 0, "{halves:?}");
-    assert!([0, 1, 3, 4, 12, 13].iter().all(|&code| codes[code] > 30), "{codes:?}");
+    assert!([0, 1, 3, 4, 12, 13, 19].iter().all(|&code| codes[code] > 30), "{codes:?}");
 }
 
 /// "Other bad values are in the statement: both loops refuse them with the same code."

@@ -10,7 +10,7 @@ use host::gen;
 use host::law::{Command, Loop};
 use host::oven::{run, serve};
 use host::rng::for_each_seed;
-use papers::{edges_told, full_c, mean_examples, short_c};
+use papers::{edges_told, full_c, jump_examples, mean_examples, short_c};
 
 /// The output with settings C.
 fn with_c(samples: &str) -> String {
@@ -27,6 +27,14 @@ fn the_example_of_01() {
 #[test]
 fn the_examples_of_the_mean() {
     for (settings, samples, expected) in mean_examples() {
+        assert_eq!(run(settings.as_bytes(), samples), expected, "{settings}");
+    }
+}
+
+/// "The program writes `refused 19 LINE`", by hand.
+#[test]
+fn the_examples_of_the_jump() {
+    for (settings, samples, expected) in jump_examples() {
         assert_eq!(run(settings.as_bytes(), samples), expected, "{settings}");
     }
 }
@@ -91,10 +99,15 @@ fn refused_settings_end_the_run_before_any_sample() {
     assert_eq!(refused(short_c("mean=129")), "refused 15 7\n");
     assert_eq!(refused(short_c("mean=1\nmean=1")), "refused 14 8\n");
     assert_eq!(refused(short_c("mean=1") + "x"), "refused 14 28\n");
+    assert_eq!(refused(short_c("mean=1\njump=0")), "refused 15 8\n");
+    assert_eq!(refused(short_c("mean=1\njump=2000001")), "refused 15 8\n");
+    assert_eq!(refused(short_c("jump=10")), "refused 14 7\n");
+    assert_eq!(refused(short_c("jump=10\nmean=1")), "refused 14 7\n");
+    assert_eq!(refused(short_c("mean=1\njump=10") + "x"), "refused 14 29\n");
     assert_eq!(run(b"x", b""), "refused 14 1\n", "no samples, and yet told");
 }
 
-/// Settings C at an edge of its four forms are taken whole or refused.
+/// Settings C at an edge of its six forms are taken whole or refused.
 #[test]
 fn settings_at_an_edge_are_taken_or_refused_as_the_papers_say() {
     for (text, expected) in edges_told("100\n105\n113\n") {
@@ -134,6 +147,42 @@ fn long_files_are_answered_line_by_line() {
         }
         assert_eq!(run(&gen::settings_text(rng, &settings), &file), expected);
     });
+}
+
+/// The code and the line of the first sample of an automatic run that is out of range or further than
+/// jump from the sample before it, if one is.
+fn first_bad(samples: &[i32], jump: i32) -> Option<(i32, usize)> {
+    let mut before = None;
+    for (line, &raw) in (1..).zip(samples) {
+        if raw.abs() > 1_000_000 {
+            return Some((4, line));
+        }
+        if before.map_or(false, |before: i32| before.abs_diff(raw) > jump as u32) {
+            return Some((19, line));
+        }
+        before = Some(raw);
+    }
+    None
+}
+
+/// Files with wild readings in the middle: the outputs before the first stand, then it is told.
+#[test]
+fn a_file_is_answered_up_to_its_first_wild_reading() {
+    let mut codes = [0; 20];
+    for_each_seed(3_000, |rng| {
+        let settings = gen::settings(rng);
+        let count = rng.below(40);
+        let samples = gen::doubtful_oven_samples(rng, &settings, count);
+        let bad = first_bad(&samples, settings.jump);
+        let written = run(&gen::settings_text(rng, &settings), &gen::sample_file(&samples));
+        let taken = bad.map_or(samples.len(), |(_, line)| line - 1);
+        let outputs: String = written.split_inclusive('\n').take(taken).collect();
+        assert!(!outputs.contains("refused"), "{written}");
+        let told = bad.map_or(String::new(), |(code, line)| format!("refused {code} {line}\n"));
+        assert_eq!(written, outputs + &told, "{samples:?}");
+        codes[bad.map_or(0, |(code, _)| code as usize)] += 1;
+    });
+    assert!([0, 4, 19].iter().all(|&code| codes[code] > 200), "{codes:?}");
 }
 
 /// A spoiled file gives the front of the good file's output and one `refused` line.

@@ -1,4 +1,4 @@
-//! 01's table of codes: each is reached, and they come in 01's order.
+//! 01's table of codes and code 19 of request 8: each is reached, and they come in the papers' order.
 
 // What else the papers say of the settings text is the matter of other tests.
 #[allow(dead_code)]
@@ -6,7 +6,7 @@ mod papers;
 
 use host::delivery::deliver;
 use host::example::{self, C};
-use host::law::{Command, Loop};
+use host::law::{Command, Loop, Mode};
 use host::oven;
 use host::refusal::{code, Refusal};
 use host::replay::{replay, Replayed};
@@ -17,7 +17,12 @@ use Command::{Automatic, Hold, Put, Sample, Set};
 
 /// The code of one delivery to a loop from C that has kept these commands.
 fn delivered(kept: &[Command], number: u32, command: Command) -> i32 {
-    let mut record = example::fresh();
+    delivered_to(&example::settings(), kept, number, command)
+}
+
+/// The same to a loop of these settings.
+fn delivered_to(settings: &Settings, kept: &[Command], number: u32, command: Command) -> i32 {
+    let mut record = Loop::make(settings).1;
     for (number, &command) in (1..).zip(kept) {
         assert_eq!(deliver(&mut record, number, command).code, 0);
     }
@@ -47,6 +52,7 @@ fn every_code_is_reached() {
     let narrow = Settings { hi: 0, out: 0, ..example::settings() };
     let wide = Settings { hi: 1_000_001, ..example::settings() };
     let near_the_end = Loop { last: u32::MAX - 1, last_command: Some(Hold), ..example::fresh() };
+    let tight = Settings { jump: 10, ..example::settings() };
     let codes = [
         delivered(&[], 1, Hold),
         delivered(&[Hold, Hold], 1, Hold),
@@ -67,8 +73,9 @@ fn every_code_is_reached() {
         Loop::make(&narrow).0,
         text::read(format!("{}\n", full_c()).as_bytes()).code,
         text::write(&example::settings(), &mut []).code,
+        delivered_to(&tight, &[Automatic, Sample(480)], 3, Sample(491)),
     ];
-    assert_eq!(codes.to_vec(), (0..=18).collect::<Vec<i32>>());
+    assert_eq!(codes.to_vec(), (0..=19).collect::<Vec<i32>>());
 }
 
 #[test]
@@ -93,6 +100,7 @@ fn each_refusal_has_the_number_of_the_table() {
         Limits,
         BytesAfter,
         BufferShort,
+        WildReading,
     ];
     for (number, refusal) in (1..).zip(table) {
         assert_eq!(refusal.code(), number);
@@ -117,6 +125,25 @@ fn deliveries_are_refused_in_order() {
     assert_eq!(delivered(&[], 1, aim(1_000_000, 0)), 8);
 }
 
+/// "code 19, tested after 4", and as content after 10, 1, 2 and 3.
+#[test]
+fn a_wild_reading_is_refused_last() {
+    let tight = Settings { jump: 10, ..example::settings() };
+    let kept = [Automatic, Sample(999_995)];
+    let broken = Loop { u: -1, ..Loop::make(&tight).1 };
+    assert_eq!(deliver(&mut broken.clone(), 3, Sample(0)).code, 10);
+    assert_eq!(delivered_to(&tight, &kept, 0, Sample(0)), 1);
+    assert_eq!(delivered_to(&tight, &kept, 1, Sample(0)), 1);
+    assert_eq!(delivered_to(&tight, &kept, 2, Sample(0)), 2);
+    assert_eq!(delivered_to(&tight, &kept, 4, Sample(0)), 3);
+    for far in [i32::MIN, -1_000_001, 1_000_001, 1_000_006, i32::MAX] {
+        assert_eq!(delivered_to(&tight, &kept, 3, Sample(far)), 4, "{far}");
+    }
+    assert_eq!(delivered_to(&tight, &kept, 3, Sample(0)), 19);
+    assert_eq!(delivered_to(&tight, &kept, 3, Sample(-1_000_000)), 19);
+    assert_eq!(delivered_to(&tight, &kept, 3, Sample(1_000_000)), 0);
+}
+
 /// "Making a loop from settings tests 11, then 16."
 #[test]
 fn making_is_refused_in_order() {
@@ -138,6 +165,14 @@ fn making_is_refused_in_order() {
     }
     assert_eq!(make(Settings { mean: 128, lo: 1_000, ..good }), 16);
     assert_eq!(make(Settings { mean: 128, ..good }), 0);
+    for jump in [0, 2_000_001, -1, i32::MIN, i32::MAX] {
+        assert_eq!(make(Settings { jump, ..good }), 11, "jump {jump}");
+        assert_eq!(make(Settings { jump, lo: 1_000, ..good }), 11, "11 before 16");
+    }
+    for jump in [1, 2_000_000] {
+        assert_eq!(make(Settings { jump, lo: 1_000, ..good }), 16);
+        assert_eq!(make(Settings { jump, ..good }), 0);
+    }
     assert_eq!(make(Settings { out: 0, ..good }), 0);
     assert_eq!(make(Settings { out: 1_000, ..good }), 0);
 }
@@ -158,8 +193,10 @@ fn writing_is_refused_in_order() {
     assert_eq!(write(Settings { sp: 0, ..all }, 0), 16);
     assert_eq!(write(Settings { mean: 0, ..good }, 0), 11);
     assert_eq!(write(Settings { mean: 129, ..good }, 0), 11);
+    assert_eq!(write(Settings { jump: 0, ..good }, 0), 11);
+    assert_eq!(write(Settings { jump: 2_000_001, ..good }, 0), 11);
     assert_eq!(write(good, 0), 18);
-    for form in &FORMS[..3] {
+    for form in &FORMS[..5] {
         assert_eq!(write(good, form.c().len()), 18, "no shorter form is written");
     }
     assert_eq!(write(good, full_c().len() - 1), 18);
@@ -190,10 +227,33 @@ fn reading_is_refused_in_order() {
     }
 }
 
+/// "tested there": the jump, too, in its place. "15 in mean comes before 14 in jump".
+#[test]
+fn the_jump_is_refused_in_its_place() {
+    for form in FORMS.into_iter().filter(|form| form.has_jump()) {
+        for jump in ["jump=0", "jump=2000001"] {
+            let jump = with(&form.c(), "jump=2000000", jump);
+            assert_eq!(read(&jump), (15, 8));
+            assert_eq!(read(&with(&jump, "kp0=65536", "kp0=")), (15, 8), "an earlier line first");
+            assert_eq!(read(&with(&jump, "mean=1", "mean=129")), (15, 7));
+            assert_eq!(read(&with(&jump, "mean=1", "mean=")), (14, 7));
+            assert_eq!(read(&with(&jump, "hi=1000", "hi=0")), (15, 8), "15 before 16");
+            assert_eq!(read(&(jump + "x")), (15, 8), "15 before 17");
+        }
+        assert_eq!(
+            read(&with(&form.c(), "jump=2000000", "jump=2000001x")),
+            (14, 8),
+            "14 before 15"
+        );
+        let both = with(&with(&form.c(), "jump=2000000", "jump="), "mean=1", "mean=129");
+        assert_eq!(read(&both), (15, 7), "15 in mean before 14 in jump");
+    }
+}
+
 /// "tested there": the mean is refused before what stands after it, and after what stands before it.
 #[test]
 fn the_mean_is_refused_in_its_place() {
-    for form in FORMS.into_iter().filter(|form| form.mean) {
+    for form in FORMS.into_iter().filter(|form| form.has_mean()) {
         let mean = with(&form.c(), "mean=1", "mean=129");
         assert_eq!(read(&mean), (15, 7));
         assert_eq!(read(&with(&mean, "kp0=65536", "kp0=")), (15, 7), "an earlier line comes first");
@@ -204,8 +264,8 @@ fn the_mean_is_refused_in_its_place() {
     }
 }
 
-/// "26 lines with lo = hi are 16; the same and one more byte are 14 at 27", and never 17; "with the
-/// line request 5's 26 and 27 are one more".
+/// "26 lines with lo = hi are 16; the same and one more byte are 14 at 27", and never 17; with the lines
+/// of mean and jump they are up to two more.
 #[test]
 fn reading_the_short_form_is_refused_in_order() {
     for form in SHORT {
@@ -264,12 +324,45 @@ fn replays_are_refused_in_order() {
     assert_eq!(last_three, done, "as many samples as numbers left");
 }
 
+/// The same of 19: what a replay refuses before 4 comes before 19, too.
+#[test]
+fn a_replay_refuses_a_wild_reading_last() {
+    let last = u32::MAX - 3;
+    let mut good = Loop { last, last_command: Some(Hold), ..example::fresh() };
+    good = Loop { mode: Mode::Automatic, primed: true, last_raw: 480, ..good };
+    good.settings.jump = 10;
+    let broken = Loop { last_raw: 1_000_001, ..good };
+    let run = |record: Loop, first: u32, samples: &[i32], places: usize| {
+        let replayed = replay(&mut record.clone(), first, samples, &mut vec![0; places]);
+        (replayed.code, replayed.place)
+    };
+    let samples = [480, 470, 0, 480];
+    assert_eq!(run(broken, 0, &samples, 3), (10, 0));
+    assert_eq!(run(good, last, &samples, 3), (1, 0));
+    assert_eq!(run(good, last + 2, &samples, 3), (3, 0));
+    assert_eq!(run(good, last + 1, &samples, 3), (12, 0));
+    assert_eq!(run(good, last + 1, &samples, 4), (13, 0));
+    assert_eq!(run(good, last + 1, &samples[..3], 4), (19, 2));
+    assert_eq!(run(good, last + 1, &samples[..2], 4), (0, 0));
+}
+
 /// "A malformed sample line [..] is 14; else a sample past the last number is 13, and one out of
-/// range 4."
+/// range 4." "a line is judged 14, 13, 4, 19"
 #[test]
 fn sample_lines_are_refused_in_order() {
     let ended = Loop { last: u32::MAX, last_command: Some(Hold), ..example::fresh() };
     let serve = |record: Loop, file: &[u8]| oven::serve(&mut record.clone(), file);
+    let tight = |record: Loop| Loop {
+        settings: Settings { jump: 10, ..record.settings },
+        mode: Mode::Automatic,
+        primed: true,
+        last_raw: 999_995,
+        ..record
+    };
+    assert_eq!(serve(tight(ended), b"0"), "refused 14 1\n");
+    assert_eq!(serve(tight(ended), b"0\n"), "refused 13 1\n");
+    assert_eq!(serve(tight(example::fresh()), b"1000006\n"), "refused 4 1\n");
+    assert_eq!(serve(tight(example::fresh()), b"0\n"), "refused 19 1\n");
     assert_eq!(serve(ended, b"10000001\n"), "refused 14 1\n");
     assert_eq!(serve(ended, b"480"), "refused 14 1\n");
     assert_eq!(serve(ended, b"1000001\n"), "refused 13 1\n");

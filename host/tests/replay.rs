@@ -20,7 +20,7 @@ fn refused(code: i32, place: usize) -> Replayed {
 fn samples_for(rng: &mut Rng, record: &Loop, most: usize) -> Vec<i32> {
     let left = u64::from(u32::MAX - record.last).min(most as u64) as usize;
     let count = rng.below(left + 1);
-    gen::samples(rng, &record.settings, count)
+    gen::samples_for(rng, record, count)
 }
 
 /// "C with mean=2, automatic, 480, 480, 470: 100, 105, 116", replayed as one and cut anywhere.
@@ -147,7 +147,7 @@ fn the_first_bad_sample_is_told_and_nothing_kept() {
         record.last_command = record.last_command.filter(|_| record.last > 0);
         let before = record;
         let count = 1 + rng.below(50);
-        let mut samples = gen::samples(rng, &record.settings, count);
+        let mut samples = gen::samples_for(rng, &record, count);
         let first_bad = rng.below(count);
         let bad = [1_000_001, -1_000_001, i32::MIN, i32::MAX];
         samples[first_bad] = rng.pick(&bad);
@@ -158,6 +158,106 @@ fn the_first_bad_sample_is_told_and_nothing_kept() {
         assert_eq!(answer, refused(4, first_bad));
         assert_eq!((record, outputs), (before, vec![-7; count]));
     });
+}
+
+/// A loop from C with a jump of 10.
+fn tight() -> Loop {
+    Loop::make(&Settings { jump: 10, ..example::settings() }).1
+}
+
+/// "jump=10, last kept 480: [490, 479] is 19 at 1; [490, 501, 1000001] is 19 at 1; [490, 1000001, 5] is
+/// 4 at 1." And at place 0: "tested against the record's (unless manual or not primed)".
+#[test]
+fn the_earliest_bad_sample_is_told_with_its_code() {
+    let mut automatic = tight();
+    deliver(&mut automatic, 1, Command::Automatic);
+    deliver(&mut automatic, 2, Command::Sample(480));
+    let cases: [(&[i32], i32, usize); 15] = [
+        (&[490, 479], 19, 1),
+        (&[490, 501, 1_000_001], 19, 1),
+        (&[490, 1_000_001, 5], 4, 1),
+        (&[491], 19, 0),
+        (&[469], 19, 0),
+        (&[491, 1_000_001], 19, 0),
+        (&[1_000_001, 491], 4, 0),
+        (&[480, 490, 500, 510, 521], 19, 4),
+        (&[480, 470, 460, 450, 439], 19, 4),
+        (&[480, 470, 460, 471, 439], 19, 3),
+        (&[490, 480, 491, i32::MIN], 19, 2),
+        (&[490, 480, i32::MIN, 491], 4, 2),
+        (&[490, 500, 490, 480, 470, 460], 0, 0),
+        (&[490], 0, 0),
+        (&[470], 0, 0),
+    ];
+    for (samples, code, place) in cases {
+        let mut record = automatic;
+        let mut outputs = [-7; 7];
+        let answer = replay(&mut record, 3, samples, &mut outputs);
+        let count = if code == 0 { samples.len() } else { 0 };
+        assert_eq!(answer, Replayed { code, place, count }, "{samples:?}");
+        assert!(code == 0 || (record, outputs) == (automatic, [-7; 7]), "{samples:?}");
+        assert!(code != 0 || record.last_raw == samples[count - 1], "{samples:?}");
+    }
+}
+
+/// "Not primed, automatic: [1000000, -1000000] is 19 at 1", which is the sample before it and not the
+/// record's. In manual nothing is wild.
+#[test]
+fn the_first_sample_and_manual_mode_are_exempt_in_a_replay() {
+    let leap = [1_000_000, -1_000_000];
+    for (jump, answer) in [(10, refused(19, 1)), (1_999_999, refused(19, 1)), (2_000_000, done(2))]
+    {
+        let mut record = tight();
+        record.settings.jump = jump;
+        let manual = replay(&mut record.clone(), 1, &leap, &mut [0; 2]);
+        assert_eq!(manual, done(2), "manual, jump {jump}");
+        deliver(&mut record, 1, Command::Automatic);
+        assert_eq!(replay(&mut record, 2, &leap, &mut [0; 2]), answer, "jump {jump}");
+    }
+    let mut held = tight();
+    for (number, command) in (1..).zip([Command::Automatic, Command::Sample(480), Command::Hold]) {
+        deliver(&mut held, number, command);
+    }
+    assert_eq!(replay(&mut held, 4, &[0, 480, -480], &mut [0; 3]), done(3));
+    assert_eq!(held.last_raw, -480);
+}
+
+/// "In a replay the test uses the sample before, and the earliest bad sample is reported with its code
+/// and place": where single deliveries would be refused first, and with their code; "before it all are
+/// good".
+#[test]
+fn a_replay_is_refused_where_single_deliveries_would_be() {
+    let mut codes = [[0; 20]; 2];
+    for_each_seed(10_000, |rng| {
+        let mut start = gen::record(rng);
+        start.last /= 2;
+        start.last_command = start.last_command.filter(|_| start.last > 0);
+        let count = rng.below(25);
+        let samples = gen::doubtful_samples(rng, &start, count);
+        let mut one_by_one = start;
+        let mut outputs = vec![];
+        let first_bad = (start.last + 1..).zip(&samples).find_map(|(number, &raw)| {
+            let answer = deliver(&mut one_by_one, number, Command::Sample(raw));
+            outputs.push(answer.output);
+            (answer.code != 0).then_some(answer.code)
+        });
+        let mut record = start;
+        let mut written = vec![-7; count];
+        let answer = replay(&mut record, start.last + 1, &samples, &mut written);
+        match first_bad {
+            None => {
+                assert_eq!((answer, record), (done(count), one_by_one));
+                assert_eq!(written, outputs);
+            }
+            Some(code) => {
+                assert_eq!(answer, refused(code, outputs.len() - 1), "{samples:?}");
+                assert_eq!((record, written), (start, vec![-7; count]));
+            }
+        }
+        codes[usize::from(answer.place > 0)][answer.code as usize] += 1;
+    });
+    assert!(codes[0][0] > 1_000 && codes[1][0] == 0, "{codes:?}");
+    assert!([4, 19].iter().all(|&code| codes.iter().all(|at| at[code] > 100)), "{codes:?}");
 }
 
 /// A day's replay goes through in one call and agrees with its two halves.

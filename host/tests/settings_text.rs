@@ -1,4 +1,4 @@
-//! 01, "Settings text", in the four forms of requests 5 and 7: every edge that they name, and both
+//! 01, "Settings text", in the six forms of requests 5, 7 and 8: every edge that they name, and both
 //! round trips.
 
 // What the programs write of the settings text is the matter of other tests.
@@ -7,7 +7,7 @@ mod papers;
 
 use host::example::{self, C};
 use host::gen;
-use host::rng::for_each_seed;
+use host::rng::{for_each_seed, Rng};
 use host::settings::{GainSet, Settings};
 use host::text::{lines_of, read, write, Reading, Writing};
 use papers::{edges, first_lines, full_c, keys, longest_text, range, short_c, with_line};
@@ -23,7 +23,7 @@ fn refused(text: &[u8]) -> (i32, usize) {
 
 /// What the writer gives for settings that it has to take.
 fn written(settings: &Settings) -> String {
-    let mut buffer = [0; 1_053];
+    let mut buffer = [0; 1_066];
     let writing = write(settings, &mut buffer);
     assert_eq!(writing.code, 0, "{settings:?}");
     String::from_utf8(buffer[..writing.length].to_vec()).expect("text")
@@ -40,33 +40,35 @@ fn longest() -> Settings {
         sp: -1_000_000,
         rate: 2_000_000,
         mean: 128,
+        jump: 2_000_000,
         sets: [gains; 16],
     }
 }
 
-/// "Writing always gives 86 lines", and with that of the mean one more: 01's C comes first, and then
-/// set 0 twelve times more.
+/// "Writing always gives 86 lines", and with those of mean and jump two more: 01's C comes first, and
+/// then set 0 twelve times more.
 #[test]
-fn settings_c_is_read_in_each_form_and_written_in_87_lines() {
+fn settings_c_is_read_in_each_form_and_written_in_88_lines() {
     assert_eq!((C.matches('\n').count(), C.len()), (26, 230));
-    for (form, bytes) in FORMS.into_iter().zip([230, 237, 800, 807]) {
+    for (form, bytes) in FORMS.into_iter().zip([230, 237, 250, 800, 807, 820]) {
         let text = form.c();
         assert_eq!((text.matches('\n').count(), text.len()), (form.lines, bytes));
         let reading = read(text.as_bytes());
         assert_eq!(reading, Reading { code: 0, line: 0, settings: example::settings() });
         let mut buffer = [b'#'; 1_100];
         let writing = write(&reading.settings, &mut buffer);
-        assert_eq!(writing, Writing { code: 0, length: 807 });
-        assert_eq!(&buffer[..807], full_c().as_bytes());
-        assert!(buffer[807..].iter().all(|&byte| byte == b'#'), "bytes after the text are left");
+        assert_eq!(writing, Writing { code: 0, length: 820 });
+        assert_eq!(&buffer[..820], full_c().as_bytes());
+        assert!(buffer[820..].iter().all(|&byte| byte == b'#'), "bytes after the text are left");
     }
 }
 
-/// "A text that ends after 26 lines is still read, with sets 4 to 15 equal to set 0", and "a text
-/// whose line after rate begins with kp0 is read as mean 1". Short forms are "written full".
+/// "A text that ends after 26 lines is still read, with sets 4 to 15 equal to set 0", "a text whose
+/// line after rate begins with kp0 is read as mean 1", and "one without jump means 2,000,000". Short
+/// forms are "written full".
 #[test]
-fn what_a_text_leaves_out_is_set_0_and_mean_1() {
-    let (mut other_sets, mut other_means) = (0, 0);
+fn what_a_text_leaves_out_is_set_0_and_mean_1_and_jump_2_000_000() {
+    let (mut other_sets, mut other_means, mut other_jumps) = (0, 0, 0);
     for_each_seed(3_000, |rng| {
         let settings = gen::settings(rng);
         let every_line = lines_of(&settings);
@@ -76,21 +78,26 @@ fn what_a_text_leaves_out_is_set_0_and_mean_1() {
                 other_sets += usize::from(settings.sets[4..] != [settings.sets[0]; 12]);
                 expected.sets[4..].fill(settings.sets[0]);
             }
-            if !form.mean {
+            if !form.has_mean() {
                 other_means += usize::from(settings.mean != 1);
                 expected.mean = 1;
+            }
+            if !form.has_jump() {
+                other_jumps += usize::from(settings.jump != 2_000_000);
+                expected.jump = 2_000_000;
             }
             let text = form.of(&every_line);
             let reading = read(text.as_bytes());
             assert_eq!(reading, Reading { code: 0, line: 0, settings: expected });
             let long = written(&reading.settings);
-            assert_eq!(long.matches('\n').count(), 87);
+            assert_eq!(long.matches('\n').count(), 88);
             assert_eq!(form.of(&long), text);
             assert_eq!(read(long.as_bytes()), reading, "written and read again");
         }
     });
     assert!(other_sets > 2_000, "{other_sets} texts that leave out other sets");
     assert!(other_means > 2_000, "{other_means} texts that leave out another mean");
+    assert!(other_jumps > 2_000, "{other_jumps} texts that leave out another jump");
 }
 
 /// Each mean from 1 to 128 is read from its line, in either form that has it, and written back.
@@ -100,17 +107,37 @@ fn each_mean_from_1_to_128_is_read_and_written() {
         let expected = Settings { mean, ..example::settings() };
         let line = format!("mean={mean}");
         let full = full_c().replace("mean=1", &line);
-        for text in [short_c(&line), full.clone()] {
+        for text in [short_c(&line), short_c(&format!("{line}\njump=2000000")), full.clone()] {
             assert_eq!(read(text.as_bytes()).settings, expected);
         }
         assert_eq!(written(&expected), full);
     }
 }
 
-/// Each set of a text of 87 lines has the values of its own lines: here each its line's number, but
+/// "jump is 1 to 2,000,000", whatever the mean before it is: it is read from its line, in either form
+/// that has it, and written back.
+#[test]
+fn each_jump_is_read_and_written() {
+    let mut rng = Rng::new(8);
+    let drawn = (0..500).map(|_| rng.between(1, 2_000_000) as i32).collect();
+    let few =
+        [(1..=100).collect(), drawn, vec![999_999, 1_000_000, 1_000_001, 1_999_999, 2_000_000]];
+    for jump in few.concat() {
+        let mean = 1 + jump % 128;
+        let expected = Settings { mean, jump, ..example::settings() };
+        let lines = format!("mean={mean}\njump={jump}");
+        let full = full_c().replace("mean=1\njump=2000000", &lines);
+        for text in [short_c(&lines), full.clone()] {
+            assert_eq!(read(text.as_bytes()).settings, expected);
+        }
+        assert_eq!(written(&expected), full);
+    }
+}
+
+/// Each set of a text of 88 lines has the values of its own lines: here each its line's number, but
 /// for lo and out, which have to keep to 01's order.
 #[test]
-fn each_of_the_87_lines_says_its_own_value() {
+fn each_of_the_88_lines_says_its_own_value() {
     let line = |(number, key): (i32, String)| match key.as_str() {
         "lo" | "out" => format!("{key}={}\n", -number),
         _ => format!("{key}={number}\n"),
@@ -119,10 +146,11 @@ fn each_of_the_87_lines_says_its_own_value() {
     let text = text.replace("lo=-2\n", "lo=-1000000\n");
     let Reading { code, settings, .. } = read(text.as_bytes());
     assert_eq!(code, 0, "{text}");
-    let Settings { action, lo, hi, out, sp, rate, mean, sets } = settings;
-    assert_eq!([action, lo, hi, out, sp, rate, mean], [1, -1_000_000, 3, -4, 5, 6, 7]);
+    let Settings { action, lo, hi, out, sp, rate, mean, jump, sets } = settings;
+    assert_eq!([action, lo, hi, out], [1, -1_000_000, 3, -4]);
+    assert_eq!([sp, rate, mean, jump], [5, 6, 7, 8]);
     for (k, set) in (0..16).zip(sets) {
-        let at = 8 + 5 * k;
+        let at = 9 + 5 * k;
         let own = GainSet { kp: at, ki: at + 1, kd: at + 2, alpha: at + 3, kt: at + 4 };
         assert_eq!(set, own, "set {k}");
     }
@@ -155,7 +183,7 @@ fn a_text_that_stops_early_is_14_where_it_stops() {
 
 /// What the papers answer at every edge of the forms.
 #[test]
-fn each_edge_of_the_four_forms_is_answered_as_the_papers_say() {
+fn each_edge_of_the_six_forms_is_answered_as_the_papers_say() {
     for (text, code, line) in edges() {
         let reading = read(text.as_bytes());
         assert_eq!((reading.code, reading.line), (code, line), "{}", text.escape_debug());
@@ -219,8 +247,10 @@ fn lines_of_wrong_form_are_14() {
             let damaged = with_line(&form.c(), form.lines, line.replace("lo", "kt15").as_bytes());
             assert_eq!(refused(&damaged), (14, form.lines), "{line}");
         }
-        let damaged = with_line(&full_c(), 7, line.replace("lo", "mean").as_bytes());
-        assert_eq!(refused(&damaged), (14, 7), "{line}");
+        for (number, key) in [(7, "mean"), (8, "jump")] {
+            let damaged = with_line(&full_c(), number, line.replace("lo", key).as_bytes());
+            assert_eq!(refused(&damaged), (14, number), "{line}");
+        }
     }
 }
 
@@ -263,7 +293,8 @@ fn keys_stand_in_one_order() {
 }
 
 /// Each line of each form in the place of each other one is 14 at the first of the two, but kp0 in
-/// the place of the mean: that is a text without the mean, in which the next line is of wrong form.
+/// the place of the mean or of the jump: that is a text without it, in which the next line is of wrong
+/// form.
 #[test]
 fn two_lines_that_change_places_are_14_at_the_first() {
     for form in FORMS {
@@ -271,8 +302,9 @@ fn two_lines_that_change_places_are_14_at_the_first() {
         for (one, other) in (0..lines).flat_map(|one| (one + 1..lines).map(move |o| (one, o))) {
             let mut split: Vec<&str> = text.split_inclusive('\n').collect();
             split.swap(one, other);
-            let kp0_after_rate = form.mean && (one, other) == (6, 7);
-            let line = if kp0_after_rate { 8 } else { one + 1 };
+            let kp0 = 6 + form.optional;
+            let left_out = other == kp0 && (6..kp0).contains(&one);
+            let line = if left_out { one + 2 } else { one + 1 };
             assert_eq!(refused(split.concat().as_bytes()), (14, line), "{one} and {other}");
         }
     }
@@ -283,15 +315,15 @@ fn two_lines_that_change_places_are_14_at_the_first() {
 fn sets_stand_in_the_order_of_their_numbers() {
     let full = full_c();
     let mut split: Vec<&str> = full.split_inclusive('\n').collect();
-    let sets = split.split_off(7);
+    let sets = split.split_off(8);
     let mut by_letters: Vec<(String, &[&str])> =
         (0..16).map(|k: usize| k.to_string()).zip(sets.chunks(5)).collect();
     by_letters.sort();
     for (_, lines) in by_letters {
         split.extend(lines);
     }
-    assert_eq!((split.len(), split[12], split[17]), (87, "kp1=131072\n", "kp10=65536\n"));
-    assert_eq!(refused(split.concat().as_bytes()), (14, 18));
+    assert_eq!((split.len(), split[13], split[18]), (88, "kp1=131072\n", "kp10=65536\n"));
+    assert_eq!(refused(split.concat().as_bytes()), (14, 19));
 }
 
 /// "Eight digits are 14, and seven that are too large are 15."
@@ -352,15 +384,16 @@ fn limits_out_of_order_are_16() {
 }
 
 /// "1,044 bytes bounds accepted texts (1,045 pass every line and are 16)", and with one more they
-/// are 17; with the mean it is 1,053. So is the short form bounded by 01's 306, and with the mean by
-/// 315; with one byte more its 307, or 316, are 14 at the line after.
+/// are 17; with the mean it is 1,053, with the jump 1,066. So is the short form bounded by 01's 306,
+/// with the mean by 315 and with the jump by 328; with one byte more its 307, 316, or 329, are 14 at the
+/// line after.
 #[test]
 fn the_longest_texts() {
     assert_eq!(written(&longest()), longest_text());
     for form in FORMS {
         let text = form.of(&longest_text());
         assert_eq!(text.len(), form.bytes);
-        let mean = if form.mean { 128 } else { 1 };
+        let mean = if form.has_mean() { 128 } else { 1 };
         let settings = Settings { mean, ..longest() };
         assert_eq!(read(text.as_bytes()), Reading { code: 0, line: 0, settings });
         let after = if FULL.contains(&form) { (17, 0) } else { (14, form.lines + 1) };
@@ -384,7 +417,7 @@ fn the_longest_texts() {
 fn the_buffer_has_to_hold_this_text() {
     for settings in [example::settings(), longest()] {
         let text = lines_of(&settings);
-        for length in [0, 1, 230, 315, text.len() - 1] {
+        for length in [0, 1, 230, 328, text.len() - 1] {
             let mut buffer = vec![b'#'; length];
             let refusal = Writing { code: 18, length: 0 };
             assert_eq!(write(&settings, &mut buffer), refusal);
@@ -402,7 +435,7 @@ fn settings_written_are_read_back() {
     for_each_seed(5_000, |rng| {
         let settings = gen::settings(rng);
         let spare = rng.below(20);
-        let mut buffer = vec![b'#'; 1_053 + spare];
+        let mut buffer = vec![b'#'; 1_066 + spare];
         let writing = write(&settings, &mut buffer);
         assert_eq!(writing.code, 0);
         assert!(buffer[writing.length..].iter().all(|&byte| byte == b'#'));
@@ -422,12 +455,14 @@ fn printed_number(line: &[u8], key: &str) -> Option<i32> {
 }
 
 /// The form that a text has so far as it goes: "a text whose line after rate begins with kp0" has no
-/// line of the mean, and one that ends after set 3 no more sets.
+/// line of the mean and none of the jump, one that goes on so after the mean none of the jump, and one
+/// that ends after set 3 no more sets.
 fn form_of(text: &[u8]) -> Form {
     let lines: Vec<&[u8]> = text.split_inclusive(|&byte| byte == b'\n').collect();
-    let mean = !lines.get(6).map_or(false, |line| line.starts_with(b"kp0"));
-    let forms = if lines.len() > 26 + usize::from(mean) { FULL } else { SHORT };
-    forms[usize::from(mean)]
+    let is_kp0 = |line: usize| lines.get(line - 1).map_or(false, |line| line.starts_with(b"kp0"));
+    let optional = [7, 8].into_iter().position(is_kp0).unwrap_or(2);
+    let forms = if lines.len() > 26 + optional { FULL } else { SHORT };
+    forms[optional]
 }
 
 /// The code and line of a text, in another way than the peer's: line by line, so long as there are
@@ -455,7 +490,7 @@ fn answer_of(text: &[u8]) -> (i32, usize) {
 /// leaves out.
 #[test]
 fn damaged_texts_are_refused_or_written_back() {
-    let mut codes = [[0; 18]; 4];
+    let mut codes = [[0; 18]; 6];
     for_each_seed(60_000, |rng| {
         let settings = gen::settings(rng);
         let whole = gen::any_form(rng, &settings);
@@ -463,13 +498,14 @@ fn damaged_texts_are_refused_or_written_back() {
         let reading = read(&text);
         assert_eq!((reading.code, reading.line), answer_of(&text), "{}", text.escape_ascii());
         let form = form_of(&text);
-        let place = FORMS.iter().position(|&other| other == form).expect("one of the four");
+        let place = FORMS.iter().position(|&other| other == form).expect("one of the six");
         codes[place][reading.code as usize] += 1;
         if reading.code == 0 {
             let long = written(&reading.settings);
-            assert_eq!(long.matches('\n').count(), 87);
+            assert_eq!(long.matches('\n').count(), 88);
             assert_eq!(form.of(&long).into_bytes(), text);
-            assert!(form.mean || reading.settings.mean == 1);
+            assert!(form.has_mean() || reading.settings.mean == 1);
+            assert!(form.has_jump() || reading.settings.jump == 2_000_000);
         } else {
             assert_eq!(reading.settings, Settings::default());
         }

@@ -1,4 +1,5 @@
-//! 01's state rules and those of request 7: each by itself, at its ends, and over unreached records.
+//! 01's state rules and those of requests 7 and 8: each by itself, at its ends, and over unreached
+//! records.
 
 use host::delivery::{deliver, Answer};
 use host::example;
@@ -16,6 +17,7 @@ fn valid() -> Loop {
     Loop {
         window,
         seen: 3,
+        last_raw: 480,
         mode: Mode::Automatic,
         primed: true,
         y: 480 * Loop::F,
@@ -33,7 +35,7 @@ fn with(change: fn(&mut Loop)) -> Loop {
 
 /// Records that break one rule each.
 fn broken() -> Vec<Loop> {
-    [broken_settings(), broken_state(), broken_window()].concat()
+    [broken_settings(), broken_state(), broken_window(), broken_last_raw()].concat()
 }
 
 /// Those that break "settings within the table".
@@ -54,6 +56,11 @@ fn broken_settings() -> Vec<Loop> {
         with(|l| l.settings.mean = -1),
         with(|l| l.settings.mean = i32::MIN),
         with(|l| l.settings.mean = i32::MAX),
+        with(|l| l.settings.jump = 0),
+        with(|l| l.settings.jump = 2_000_001),
+        with(|l| l.settings.jump = -1),
+        with(|l| l.settings.jump = i32::MIN),
+        with(|l| l.settings.jump = i32::MAX),
         with(|l| l.settings.sets[3].kp = -1),
         with(|l| l.settings.sets[2].ki = 4_194_305),
         with(|l| l.settings.sets[1].alpha = 0),
@@ -86,7 +93,10 @@ fn broken_state() -> Vec<Loop> {
         with(|l| l.y = 65_536_000_001),
         with(|l| l.y = -65_536_000_001),
         with(|l| l.y = i64::MIN),
-        with(|l| l.primed = false),
+        with(|l| {
+            l.primed = false;
+            l.last_raw = 0;
+        }),
         with(|l| {
             l.mode = Mode::Manual;
             l.pending = true;
@@ -118,6 +128,40 @@ fn broken_window() -> Vec<Loop> {
     ]
 }
 
+/// Those that break a rule of request 8: "The last kept raw temperature joins the record, within
+/// ±1,000,000, and 0 while not primed."
+fn broken_last_raw() -> Vec<Loop> {
+    vec![
+        with(|l| l.last_raw = 1_000_001),
+        with(|l| l.last_raw = -1_000_001),
+        with(|l| l.last_raw = i32::MIN),
+        with(|l| l.last_raw = i32::MAX),
+        unprimed(480),
+        unprimed(1),
+        unprimed(-1),
+        unprimed(1_000_000),
+    ]
+}
+
+/// A record that is not primed, with this last raw temperature.
+fn unprimed(last_raw: i32) -> Loop {
+    Loop { primed: false, y: 0, last_raw, ..valid() }
+}
+
+/// Records that keep the rules of request 8 at their very ends. None ties the last raw temperature to
+/// the window, to y or to the last command, which here are 480.
+fn last_raws_at_the_ends() -> Vec<Loop> {
+    vec![
+        with(|l| l.settings.jump = 1),
+        with(|l| l.settings.jump = 1_999_999),
+        with(|l| l.last_raw = 1_000_000),
+        with(|l| l.last_raw = -1_000_000),
+        with(|l| l.last_raw = 0),
+        with(|l| l.last_raw = 481),
+        unprimed(0),
+    ]
+}
+
 /// Records that keep the rules of request 7 at their very ends. "No state rule ties `seen` to primed".
 fn windows_at_the_ends() -> Vec<Loop> {
     vec![
@@ -135,10 +179,7 @@ fn windows_at_the_ends() -> Vec<Loop> {
             l.seen = 0;
             l.window = [0; 128];
         }),
-        with(|l| {
-            l.primed = false;
-            l.y = 0;
-        }),
+        unprimed(0),
     ]
 }
 
@@ -161,10 +202,7 @@ fn at_the_ends() -> Vec<Loop> {
         with(|l| l.integral = -16_842_752_000_000),
         with(|l| l.y = 65_536_000_000),
         with(|l| l.y = -65_536_000_000),
-        with(|l| {
-            l.primed = false;
-            l.y = 0;
-        }),
+        unprimed(0),
         with(|l| l.pending = true),
         with(|l| {
             l.last = 0;
@@ -178,7 +216,8 @@ fn at_the_ends() -> Vec<Loop> {
 
 #[test]
 fn each_rule_is_tested_and_nothing_more() {
-    for record in at_the_ends().into_iter().chain(windows_at_the_ends()) {
+    let good = [at_the_ends(), windows_at_the_ends(), last_raws_at_the_ends()];
+    for record in good.concat() {
         assert_eq!(record.check(), Ok(()), "{record:?}");
     }
     for record in broken() {

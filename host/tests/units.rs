@@ -1,4 +1,5 @@
-//! 01, "Units": rounding, as request 3 has it, and the table of ranges, as requests 5 and 7 have it.
+//! 01, "Units": rounding, as request 3 has it, and the table of ranges, as requests 5, 7 and 8
+//! have it.
 
 // What else the papers say of the settings text is the matter of other tests.
 #[allow(dead_code)]
@@ -68,29 +69,30 @@ fn rounding_over_any_number_is_to_the_nearest_and_halves_go_away_from_zero() {
     assert!(halves > 1_000, "{halves} halves");
 }
 
-/// One row for each of 01's keys and one for the mean, and a place for each of the 87 lines.
+/// One row for each of 01's keys, one for the mean and one for the jump, and a place for each of the 88
+/// lines.
 #[test]
 fn the_table_has_the_rows_of_the_papers_in_the_order_of_the_text() {
     let letters = ROWS.map(|row| row.letters);
-    assert_eq!(letters.join(" "), "action lo hi out sp rate mean kp ki kd alpha kt");
+    assert_eq!(letters.join(" "), "action lo hi out sp rate mean jump kp ki kd alpha kt");
     let keys: Vec<String> = places().map(|place| place.key()).collect();
     assert_eq!(keys, papers::keys());
-    let spelled = "action lo hi out sp rate mean kp0 ki0 kd0 alpha0 kt0 kp1 ki1 kd1 alpha1 kt1 \
-                   kp2 ki2 kd2 alpha2 kt2 kp3 ki3 kd3 alpha3 kt3 kp4 ki4 kd4 alpha4 kt4";
-    assert_eq!(keys[..32].join(" "), spelled);
-    assert_eq!(keys[57..62].join(" "), "kp10 ki10 kd10 alpha10 kt10");
-    assert_eq!(keys[82..].join(" "), "kp15 ki15 kd15 alpha15 kt15");
+    let spelled = "action lo hi out sp rate mean jump kp0 ki0 kd0 alpha0 kt0 kp1 ki1 kd1 alpha1 \
+                   kt1 kp2 ki2 kd2 alpha2 kt2 kp3 ki3 kd3 alpha3 kt3 kp4 ki4 kd4 alpha4 kt4";
+    assert_eq!(keys[..33].join(" "), spelled);
+    assert_eq!(keys[58..63].join(" "), "kp10 ki10 kd10 alpha10 kt10");
+    assert_eq!(keys[83..].join(" "), "kp15 ki15 kd15 alpha15 kt15");
     for (place, key) in places().zip(&keys) {
         assert_eq!((place.row.least, place.row.most), papers::range(key), "{key}");
     }
 }
 
-/// "Raise four to sixteen, so code 9 starts at 16 and the text has 86 lines"; with that of the mean
-/// they are "one more". "a window of 128 places"
+/// "Raise four to sixteen, so code 9 starts at 16 and the text has 86 lines"; with those of mean and
+/// jump they are two more. "a window of 128 places"
 #[test]
-fn the_counts_are_those_of_requests_5_and_7() {
-    assert_eq!((SETS, LINES, places().count()), (16, 87, 87));
-    assert_eq!((SHORT_SETS, SHORT_LINES), (4, 27));
+fn the_counts_are_those_of_requests_5_7_and_8() {
+    assert_eq!((SETS, LINES, places().count()), (16, 88, 88));
+    assert_eq!((SHORT_SETS, SHORT_LINES), (4, 28));
     assert_eq!(Loop::SETS, 0..=15);
     assert_eq!((WINDOW, Loop::blank().window.len()), (128, 128));
 }
@@ -108,13 +110,14 @@ fn the_bounds_of_the_state_rules_follow_from_the_ranges() {
 #[test]
 fn values_and_settings_are_two_views_of_the_same() {
     for_each_seed(200, |rng| {
-        let values = [0; 87].map(|_: i32| rng.bits() as i32);
+        let values = [0; 88].map(|_: i32| rng.bits() as i32);
         let settings = Settings::from_values(&values);
         assert_eq!(settings.values(), values);
-        assert_eq!([settings.lo, settings.rate, settings.mean], [values[1], values[5], values[6]]);
-        assert_eq!((settings.sets[0].kp, settings.sets[3].kt), (values[7], values[26]));
-        assert_eq!((settings.sets[2].ki, settings.sets[1].alpha), (values[18], values[15]));
-        assert_eq!((settings.sets[4].kp, settings.sets[10].kd), (values[27], values[59]));
-        assert_eq!((settings.sets[15].kp, settings.sets[15].kt), (values[82], values[86]));
+        let Settings { lo, rate, mean, jump, sets, .. } = settings;
+        assert_eq!([lo, rate, mean, jump], [values[1], values[5], values[6], values[7]]);
+        assert_eq!((sets[0].kp, sets[3].kt), (values[8], values[27]));
+        assert_eq!((sets[2].ki, sets[1].alpha), (values[19], values[16]));
+        assert_eq!((sets[4].kp, sets[10].kd), (values[28], values[60]));
+        assert_eq!((sets[15].kp, sets[15].kt), (values[83], values[87]));
     });
 }

@@ -1,13 +1,13 @@
 //! What the papers say of the settings text, in their own numbers: 26 lines or 86, four sets or
-//! sixteen, and with the line of the mean one more. The peer has no part in it but the text of
-//! settings C, which is 01's.
+//! sixteen, with the line of the mean one more and with that of the jump two; and what they say of a
+//! mean and of a jump. The peer has no part in it but the text of settings C, which is 01's.
 
 use host::example::C;
 
-/// "action, lo, hi, out, sp, rate", mean, which "follows rate", "then kp0 ki0 kd0 alpha0 kt0, then
-/// the same for" the sets 1 to 15: the 87 keys in their order.
+/// "action, lo, hi, out, sp, rate", mean, which "follows rate", jump, "a settings line after mean",
+/// "then kp0 ki0 kd0 alpha0 kt0, then the same for" the sets 1 to 15: the 88 keys in their order.
 pub fn keys() -> Vec<String> {
-    let once = ["action", "lo", "hi", "out", "sp", "rate", "mean"].map(String::from);
+    let once = ["action", "lo", "hi", "out", "sp", "rate", "mean", "jump"].map(String::from);
     let set = |k: usize| ["kp", "ki", "kd", "alpha", "kt"].map(|letters| format!("{letters}{k}"));
     once.into_iter().chain((0..16).flat_map(set)).collect()
 }
@@ -17,7 +17,7 @@ pub fn range(key: &str) -> (i32, i32) {
     match key.trim_end_matches(|c: char| c.is_ascii_digit()) {
         "action" => (0, 1),
         "lo" | "hi" | "out" | "sp" => (-1_000_000, 1_000_000),
-        "rate" => (1, 2_000_000),
+        "rate" | "jump" => (1, 2_000_000),
         "mean" => (1, 128),
         "kp" | "ki" | "kd" => (0, 4_194_304),
         "alpha" => (1, 65_536),
@@ -29,36 +29,50 @@ pub fn range(key: &str) -> (i32, i32) {
 /// Means over one temperature, over few, over one less than the window holds, and over all.
 pub const MEANS: [i32; 5] = [1, 2, 7, 127, 128];
 
-/// A form of the settings text: "a text that ends after 26 lines" or after 86, and "with the line" of
-/// the mean each "one more".
+/// The keys of the lines that a text may leave out: "neither line, mean alone, or both".
+const OPTIONAL: [&str; 2] = ["mean", "jump"];
+
+/// A form of the settings text: "a text that ends after 26 lines" or after 86; with the line of the mean
+/// each is "one more", and with those of mean and jump two.
 #[derive(Debug, Clone, Copy, PartialEq, Eq)]
 pub struct Form {
-    /// Whether the line of the mean is in it.
-    pub mean: bool,
+    /// How many of the lines of mean and jump are in it.
+    pub optional: usize,
     /// How many lines it has.
     pub lines: usize,
     /// How many bytes it has at most.
     pub bytes: usize,
 }
 
-const fn form(mean: bool, lines: usize, bytes: usize) -> Form {
-    Form { mean, lines, bytes }
+const fn form(optional: usize, lines: usize, bytes: usize) -> Form {
+    Form { optional, lines, bytes }
 }
 
 /// Those that end after set 3; of each the next one in [`FULL`] has every set.
-pub const SHORT: [Form; 2] = [form(false, 26, 306), form(true, 27, 315)];
+pub const SHORT: [Form; 3] = [form(0, 26, 306), form(1, 27, 315), form(2, 28, 328)];
 
 /// Those that end after set 15. "same bytes are claimed only for texts that have every line": the
 /// last.
-pub const FULL: [Form; 2] = [form(false, 86, 1_044), form(true, 87, 1_053)];
+pub const FULL: [Form; 3] = [form(0, 86, 1_044), form(1, 87, 1_053), form(2, 88, 1_066)];
 
-/// All four.
-pub const FORMS: [Form; 4] = [SHORT[0], SHORT[1], FULL[0], FULL[1]];
+/// All six.
+pub const FORMS: [Form; 6] = [SHORT[0], SHORT[1], SHORT[2], FULL[0], FULL[1], FULL[2]];
 
 impl Form {
+    /// Whether the line of the mean is in it.
+    pub fn has_mean(self) -> bool {
+        self.optional >= 1
+    }
+
+    /// Whether the line of the jump is in it.
+    pub fn has_jump(self) -> bool {
+        self.optional == 2
+    }
+
     /// A text of every line in this form.
     pub fn of(self, every_line: &str) -> String {
-        let stays = |line: &&str| self.mean || !line.starts_with("mean");
+        let without = &OPTIONAL[self.optional..];
+        let stays = |line: &&str| !without.iter().any(|key| line.starts_with(key));
         every_line.split_inclusive('\n').filter(stays).take(self.lines).collect()
     }
 
@@ -69,30 +83,31 @@ impl Form {
 
     /// The keys of its lines, in their order.
     pub fn keys(self) -> Vec<String> {
-        let stays = |key: &String| self.mean || key != "mean";
+        let without = &OPTIONAL[self.optional..];
+        let stays = |key: &String| !without.contains(&key.as_str());
         keys().into_iter().filter(stays).take(self.lines).collect()
     }
 
-    /// The number that a line of 01 or of request 5 has here: "with the line" of the mean those
-    /// after rate are "one more".
-    pub fn line(self, without_the_mean: usize) -> usize {
-        without_the_mean + usize::from(self.mean && without_the_mean > 6)
+    /// The number that a line of 01 or of request 5 has here: those after rate are one more for each
+    /// of the lines of mean and jump.
+    pub fn line(self, without_either: usize) -> usize {
+        without_either + if without_either > 6 { self.optional } else { 0 }
     }
 }
 
-/// Settings C with this line of the mean, in 27 lines.
-pub fn short_c(mean: &str) -> String {
-    C.replace("rate=50\n", &format!("rate=50\n{mean}\n"))
+/// Settings C with these lines between rate and kp0, after which it has four sets.
+pub fn short_c(after_rate: &str) -> String {
+    C.replace("rate=50\n", &format!("rate=50\n{after_rate}\n"))
 }
 
-/// Settings C in 87 lines: those of 01, which are "read as mean 1", and then the lines of set 0 for
-/// each of the sets 4 to 15.
+/// Settings C in 88 lines: those of 01, which are "read as mean 1" and, "without jump", as 2,000,000,
+/// and then the lines of set 0 for each of the sets 4 to 15.
 pub fn full_c() -> String {
     let set = |k| format!("kp{k}=65536\nki{k}=16384\nkd{k}=0\nalpha{k}=65536\nkt{k}=0\n");
-    short_c("mean=1") + &(4..16).map(set).collect::<String>()
+    short_c("mean=1\njump=2000000") + &(4..16).map(set).collect::<String>()
 }
 
-/// What is written of settings C, which is the same with each of its four texts.
+/// What is written of settings C, which is the same with each of its six texts.
 pub fn with_c(run: impl Fn(&[u8]) -> String) -> String {
     let written = run(C.as_bytes());
     for form in FORMS {
@@ -117,7 +132,7 @@ pub fn with_line(text: &str, number: usize, line: &[u8]) -> Vec<u8> {
 pub type Edge = (String, i32, usize);
 
 /// What follows set 3, where it is not nothing and not the first line of set 4.
-const NO_SET_4: [&str; 24] = [
+const NO_SET_4: [&str; 25] = [
     "x",
     "\n",
     " ",
@@ -142,10 +157,11 @@ const NO_SET_4: [&str; 24] = [
     "kpa=0\n",
     "action=0\n",
     "mean=1\n",
+    "jump=2000000\n",
 ];
 
-/// "Any byte after line 26 is tested as line 27 is, 14 before 15, and on to line 86"; "with the line
-/// request 5's 26 and 27 are one more".
+/// "Any byte after line 26 is tested as line 27 is, 14 before 15, and on to line 86"; "With mean a text
+/// may end after line 27, and bytes after it are line 28; with mean and jump 28 and 29."
 pub fn edges_after_set_3() -> Vec<Edge> {
     SHORT.into_iter().zip(FULL).flat_map(|(short, full)| after_set_3(short, full)).collect()
 }
@@ -207,7 +223,7 @@ const KEYS_ALIKE: [(usize, &[&str]); 6] = [
     (86, &["kt1", "kt5", "kt15 ", "kt015", "kt51", "kt14", "kt16", "ktf", "kt1 5"]),
 ];
 
-/// Each of them with and without the line of the mean.
+/// Each of them with and without the lines of mean and jump.
 pub fn edges_of_the_keys() -> Vec<Edge> {
     let alike = |form: Form, line: usize, key| {
         with_text(&form.c(), form.line(line), &format!("{key}=1"), 14)
@@ -225,7 +241,8 @@ fn with_text(text: &str, number: usize, line: &str, code: i32) -> Edge {
     (text, code, number)
 }
 
-/// What line 7 may not be: neither a line of the mean, nor one that begins with kp0.
+/// What line 7 may not be: neither a line of the mean, nor one that begins with kp0. "jump alone is 14
+/// at line 7".
 const NO_MEAN: [&str; 24] = [
     "",
     "mean",
@@ -253,12 +270,12 @@ const NO_MEAN: [&str; 24] = [
     "ki0=1",
 ];
 
-/// The mean at another line than after rate, and what stands there instead: the lines of settings C
-/// that are replaced, by what, and the first line of wrong form.
-const OUT_OF_PLACE: [(&str, &str, usize); 9] = [
+/// The mean at another line than after rate, and what stands there instead, in a text without jump: the
+/// lines of settings C that are replaced, by what, and the first line of wrong form.
+const MEAN_OUT_OF_PLACE: [(&str, &str, usize); 9] = [
     ("mean=1\n", "mean=1\nmean=1\n", 8),
     ("mean=1\n", "mean=1\nmean=129\n", 8),
-    ("mean=1\n", "mean=1\njump=1\n", 8),
+    ("mean=1\n", "jump=1\n", 7),
     ("mean=1\n", "jump=1\nmean=1\n", 7),
     ("mean=1\nkp0=65536\n", "kp0=65536\nmean=1\n", 8),
     ("mean=1\nkp0=65536\n", "mean=1\n", 8),
@@ -270,9 +287,12 @@ const OUT_OF_PLACE: [(&str, &str, usize); 9] = [
 /// "One settings line, mean, follows rate; a text whose line after rate begins with kp0 is read as
 /// mean 1".
 pub fn edges_of_the_mean() -> Vec<Edge> {
-    [SHORT[1], FULL[1]].into_iter().flat_map(of_the_mean).collect()
+    let in_its_line = FORMS.into_iter().filter(|form| form.has_mean()).flat_map(of_the_mean);
+    let alone = [SHORT[1], FULL[1]];
+    in_its_line.chain(alone.into_iter().flat_map(of_the_mean_alone)).collect()
 }
 
+/// Bad lines of the mean, whatever follows it.
 fn of_the_mean(form: Form) -> Vec<Edge> {
     let c = form.c();
     let mut edges: Vec<Edge> = NO_MEAN.iter().map(|line| with_text(&c, 7, line, 14)).collect();
@@ -280,7 +300,13 @@ fn of_the_mean(form: Form) -> Vec<Edge> {
         edges.push(with_text(&c, 7, &format!("mean={value}"), 15));
         edges.push(with_text(&c, 7, &format!("mean={value}\nmean=1"), 15));
     }
-    edges.extend(OUT_OF_PLACE.map(|(lines, other, line)| (c.replace(lines, other), 14, line)));
+    edges
+}
+
+/// What stands in the place of the mean, or after it, where there is no jump.
+fn of_the_mean_alone(form: Form) -> Vec<Edge> {
+    let c = form.c();
+    let mut edges = out_of_place(&c, &MEAN_OUT_OF_PLACE);
     // What begins with kp0 is tested as its line is, here the seventh.
     for (line, code) in [("kp0", 14), ("kp0=", 14), ("kp0=-1", 15), ("kp0=4194305", 15)] {
         edges.push(with_text(&c.replace("mean=1\n", ""), 7, line, code));
@@ -295,8 +321,98 @@ fn of_the_mean(form: Form) -> Vec<Edge> {
     edges
 }
 
-/// Samples for settings C with a mean in its place or with other lines, and what `oven` writes.
-pub type MeanExample = (String, &'static [u8], String);
+/// A text with these lines replaced, each by another, and the first line of wrong form.
+fn out_of_place(text: &str, replaced: &[(&str, &str, usize)]) -> Vec<Edge> {
+    let edge = |&(lines, other, line): &(&str, &str, usize)| {
+        assert!(text.contains(lines), "there is no {lines}");
+        (text.replacen(lines, other, 1), 14, line)
+    };
+    replaced.iter().map(edge).collect()
+}
+
+/// What line 8 may not be after a mean: neither a line of the jump, nor one that begins with kp0.
+const NO_JUMP: [&str; 25] = [
+    "",
+    "jump",
+    "jump=",
+    "jump=-",
+    "jump=-0",
+    "jump=00",
+    "jump=01",
+    "jump=+1",
+    "jump= 1",
+    "jump=1 ",
+    "jump =1",
+    " jump=1",
+    "jump=1\r",
+    "jump=00000001",
+    "jump=20000000",
+    "Jump=1",
+    "jumps=1",
+    "jum=1",
+    "jump0=1",
+    "jump1=1",
+    "mean=1",
+    "rate=1",
+    "kp1=1",
+    "ki0=1",
+    "kp=1",
+];
+
+/// The jump at another line than after the mean: "jump alone is 14 at line 7, jump before mean too; mean
+/// twice is 14 at line 8".
+const JUMP_OUT_OF_PLACE: [(&str, &str, usize); 14] = [
+    ("mean=1\n", "", 7),
+    ("mean=1\njump=2000000\n", "jump=2000000\nmean=1\n", 7),
+    ("mean=1\njump=2000000\n", "jump=2000001\nmean=1\n", 7),
+    ("mean=1\n", "mean=1\nmean=1\n", 8),
+    ("mean=1\n", "jump=2000000\n", 7),
+    ("jump=2000000\n", "jump=2000000\njump=2000000\n", 9),
+    ("jump=2000000\n", "jump=2000000\njump=0\n", 9),
+    ("jump=2000000\n", "jump=2000000\nmean=1\n", 9),
+    ("jump=2000000\nkp0=65536\n", "kp0=65536\njump=2000000\n", 9),
+    ("mean=1\njump=2000000\nkp0=65536\n", "kp0=65536\nmean=1\njump=2000000\n", 8),
+    ("mean=1\njump=2000000\nkp0=65536\n", "kp0=65536\njump=2000000\n", 8),
+    ("jump=2000000\nkp0=65536\n", "jump=2000000\n", 9),
+    ("jump=2000000\nkp0=65536\n", "", 8),
+    ("rate=50\nmean=1\njump=2000000\n", "jump=2000000\nrate=50\nmean=1\n", 6),
+];
+
+/// "jump is 1 to 2,000,000, a settings line after mean; a text may have neither line, mean alone, or
+/// both".
+pub fn edges_of_the_jump() -> Vec<Edge> {
+    [SHORT[2], FULL[2]].into_iter().flat_map(of_the_jump).collect()
+}
+
+fn of_the_jump(form: Form) -> Vec<Edge> {
+    let c = form.c();
+    let mut edges: Vec<Edge> = NO_JUMP.iter().map(|line| with_text(&c, 8, line, 14)).collect();
+    for value in ["0", "2000001", "-1", "-2000000", "9999999", "-9999999"] {
+        edges.push(with_text(&c, 8, &format!("jump={value}"), 15));
+        edges.push(with_text(&c, 8, &format!("jump={value}\njump=1"), 15));
+    }
+    edges.extend(out_of_place(&c, &JUMP_OUT_OF_PLACE));
+    // "15 in mean comes before 14 in jump"
+    for jump in ["x", "jump=0", "jump=", ""] {
+        let both = c.replace("jump=2000000\n", &format!("{jump}\n"));
+        edges.push(with_text(&both, 7, "mean=129", 15));
+    }
+    // What begins with kp0 is tested as its line is, here the eighth.
+    for (line, code) in [("kp0", 14), ("kp0=", 14), ("kp0=-1", 15), ("kp0=4194305", 15)] {
+        edges.push(with_text(&c.replace("jump=2000000\n", ""), 8, line, code));
+    }
+    let front = first_lines(&c, 7);
+    for stop in ["", "j", "jump", "jump=", "jump=1", "k", "kp", "kp0", "kp0=65536", "kp0=4194305"] {
+        edges.push((format!("{front}{stop}"), 14, 8));
+    }
+    for eighth in ["jump=1\n", "jump=2000000\n", "kp0=65536\n"] {
+        edges.push((format!("{front}{eighth}"), 14, 9));
+    }
+    edges
+}
+
+/// Settings C with a mean, with a jump or with other lines, samples, and what `oven` writes.
+pub type OvenExample = (String, &'static [u8], String);
 
 /// "C with mean=2, automatic, 480, 480, 470: 100, 105, 116", and of every other mean. In the third
 /// sample
@@ -310,7 +426,7 @@ pub type MeanExample = (String, &'static [u8], String);
 /// "480, 481 gives 481", so that e = 19 and P + I + g = 19 + 80 + 4.75; "-480, -481 gives -481", so
 /// that with sp = -500 e = -19 and P + I + g = -19 + 120 - 4.75. "code 4 tests the raw one": before it
 /// e = 500 twice, and P + I + g = 500 - 400 + 125.
-pub fn mean_examples() -> Vec<MeanExample> {
+pub fn mean_examples() -> Vec<OvenExample> {
     let of_each = |mean| {
         let third = match mean {
             1 => 123,
@@ -320,7 +436,7 @@ pub fn mean_examples() -> Vec<MeanExample> {
         let samples: &[u8] = b"480\n480\n470\n";
         (short_c(&format!("mean={mean}")), samples, format!("100\n105\n{third}\n"))
     };
-    let mut examples: Vec<MeanExample> = (1..=128).map(of_each).collect();
+    let mut examples: Vec<OvenExample> = (1..=128).map(of_each).collect();
     let two = short_c("mean=2");
     let below = two.replace("sp=500\n", "sp=-500\n");
     let bad = "100\n225\nrefused 4 3\n";
@@ -329,6 +445,95 @@ pub fn mean_examples() -> Vec<MeanExample> {
     examples.push((short_c("mean=128"), b"0\n0\n1000001\n", bad.to_string()));
     examples
 }
+
+/// Jumps of the least, of few, of one less than what refuses nothing, and of that.
+pub const JUMPS: [i32; 5] = [1, 2, 1_000, 1_999_999, 2_000_000];
+
+/// What stands between rate and kp0, samples, and the outputs that precede a refusal or the end. Of C
+/// with sp = 500 and u = 100, kp = 1 and ki = 1/4, after the transfer sample 480 with I = 80:
+///
+/// | sample | e | P + I + g | u |
+/// |---|---|---|---|
+/// | 490 | 10 | 10 + 80 + 2.5 | 93 |
+/// | 480 after that | 20 | 20 + 82.5 + 5 | 108 |
+/// | 470 after that | 30 | 30 + 87.5 + 7.5 | 125 |
+/// | 490 with mean=2, read as 485 | 15 | 15 + 80 + 3.75 | 99 |
+/// | 500 after that, read as 495 | 5 | 5 + 83.75 + 1.25 | 90 |
+/// | 480 after 480 | 20 | 20 + 80 + 5 | 105 |
+/// | 479 after that | 21 | 21 + 85 + 5.25 | 111 |
+/// | 478 after that | 22 | 22 + 90.25 + 5.5 | 118 |
+///
+/// From one end of the range to the other P is past a limit, and the output at it.
+const WITH_A_JUMP: [(&str, &[u8], &str); 20] = [
+    ("mean=1\njump=10", b"480\n490\n480\n470\n", "100 93 108 125"),
+    ("mean=1\njump=10", b"480\n491\n480\n", "100 refused 19 2"),
+    ("mean=1\njump=10", b"480\n469\n480\n", "100 refused 19 2"),
+    ("mean=1\njump=10", b"480\n490\n479\n", "100 93 refused 19 3"),
+    ("mean=1\njump=10", b"480\n490\n501\n1000001\n", "100 93 refused 19 3"),
+    ("mean=1\njump=10", b"480\n490\n501\nx\n", "100 93 refused 19 3"),
+    ("mean=1\njump=10", b"480\n490\n1000001\n5\n", "100 93 refused 4 3"),
+    ("mean=1\njump=10", b"480\n490\n501", "100 93 refused 14 3"),
+    ("mean=1\njump=10", b"480\n10000000\n", "100 refused 14 2"),
+    ("mean=1\njump=1", b"480\n480\n478\n", "100 105 refused 19 3"),
+    ("mean=1\njump=1", b"480\n480\n479\n478\n", "100 105 111 118"),
+    ("mean=1\njump=2", b"480\n480\n478\n", "100 105 113"),
+    ("mean=2\njump=10", b"480\n490\n500\n", "100 99 90"),
+    ("mean=2\njump=10", b"480\n490\n479\n", "100 99 refused 19 3"),
+    ("mean=1\njump=1999999", b"1000000\n-1000000\n", "100 refused 19 2"),
+    ("mean=1\njump=1999999", b"-1000000\n1000000\n", "100 refused 19 2"),
+    ("mean=1\njump=2000000", b"1000000\n-1000000\n", "100 1000"),
+    ("mean=1\njump=2000000", b"-1000000\n1000000\n", "100 0"),
+    ("mean=1", b"1000000\n-1000000\n", "100 1000"),
+    ("mean=1\njump=1", b"1000000\n", "100"),
+];
+
+/// "The program writes `refused 19 LINE`; a line is judged 14, 13, 4, 19."
+pub fn jump_examples() -> Vec<OvenExample> {
+    let lines = |outputs: &str| match outputs.split_once("refused") {
+        None => outputs.replace(' ', "\n") + "\n",
+        Some((taken, refusal)) => taken.replace(' ', "\n") + "refused" + refusal + "\n",
+    };
+    let example = |(after_rate, samples, outputs)| (short_c(after_rate), samples, lines(outputs));
+    let mut examples = WITH_A_JUMP.map(example).to_vec();
+    // With alpha0=1 the filter stays at 480, and kd0=0 keeps it from the output: 500 has e = 0.
+    let slow = short_c("mean=1\njump=10").replace("alpha0=65536\n", "alpha0=1\n");
+    examples.push((slow.clone(), b"480\n490\n500\n", lines("100 93 83")));
+    examples.push((slow, b"480\n490\n479\n", lines("100 93 refused 19 3")));
+    examples
+}
+
+/// What `journal` writes for settings C with jump=10. Manual samples may lie anywhere, those of automatic
+/// within 10 of the one kept before, transfer samples too; a refused one leaves its number free, and is
+/// not what the next is compared with. The sample 490 leaves I = 90, then 480 gives 20 + 90 + 5. In set 1
+/// with kp = 2, kd = 1 and alpha = 1/2 the filter goes from 480 to 590, 650 and 675: on 710 P = -420 and
+/// D = -60 leave I = 595, and 700 gives -400 + 595 - 50 - 25.
+pub const JOURNAL_WITH_JUMP_10: &str = "\
+number=1 command=sample value=0 second=0 code=0 output=100 last=1
+number=2 command=sample value=480 second=0 code=0 output=100 last=2
+number=3 command=automatic value=0 second=0 code=0 output=100 last=3
+number=4 command=sample value=491 second=0 code=19 output=100 last=3
+number=4 command=sample value=469 second=0 code=19 output=100 last=3
+number=4 command=sample value=490 second=0 code=0 output=100 last=4
+number=5 command=sample value=501 second=0 code=19 output=100 last=4
+number=5 command=sample value=1000001 second=0 code=4 output=100 last=4
+number=5 command=sample value=2147483647 second=0 code=4 output=100 last=4
+number=5 command=sample value=511 second=0 code=19 output=100 last=4
+number=5 command=sample value=479 second=0 code=19 output=100 last=4
+number=5 command=sample value=480 second=0 code=0 output=115 last=5
+number=5 command=sample value=480 second=0 code=0 output=115 last=5
+number=5 command=sample value=1000 second=0 code=2 output=115 last=5
+number=7 command=sample value=1000 second=0 code=3 output=115 last=5
+number=4 command=sample value=1000 second=0 code=1 output=115 last=5
+number=6 command=set value=1 second=0 code=0 output=115 last=6
+number=7 command=sample value=491 second=0 code=19 output=115 last=6
+number=7 command=hold value=0 second=0 code=0 output=115 last=7
+number=8 command=sample value=700 second=0 code=0 output=115 last=8
+number=9 command=automatic value=0 second=0 code=0 output=115 last=9
+number=10 command=sample value=480 second=0 code=19 output=115 last=9
+number=10 command=sample value=711 second=0 code=19 output=115 last=9
+number=10 command=sample value=710 second=0 code=0 output=115 last=10
+number=11 command=sample value=700 second=0 code=0 output=120 last=11
+";
 
 /// What `journal` writes for settings C with mean=2: a repeat, a refused sample and other commands do
 /// not enter the window, a manual sample does. The samples 470 are read as 475, and so is the last
@@ -354,11 +559,15 @@ number=10 command=sample value=470 second=0 code=0 output=116 last=10
 number=11 command=sample value=480 second=0 code=0 output=122 last=11
 ";
 
-/// The deliveries of that journal.
-pub fn delivered_with_mean_2() -> Vec<u8> {
+/// The deliveries of a journal.
+pub fn deliveries_of(journal: &str) -> Vec<u8> {
     let delivery = |line: &str| line.split(" code=").next().map(|line| format!("{line}\n"));
-    JOURNAL_WITH_MEAN_2.lines().filter_map(delivery).collect::<String>().into_bytes()
+    journal.lines().filter_map(delivery).collect::<String>().into_bytes()
 }
+
+/// What stands between rate and kp0 in settings C, and what `journal` writes.
+pub const JOURNALS: [(&str, &str); 2] =
+    [("mean=2", JOURNAL_WITH_MEAN_2), ("mean=1\njump=10", JOURNAL_WITH_JUMP_10)];
 
 /// The longest text that is accepted, of every line; in each form it is the longest of that.
 pub fn longest_text() -> String {
@@ -370,7 +579,8 @@ pub fn longest_text() -> String {
     keys().iter().map(|key| format!("{key}={}\n", value(key))).collect()
 }
 
-/// "1,044 bytes bounds accepted texts (1,045 pass every line and are 16)"; so do 306, 315 and 1,053.
+/// "1,044 bytes bounds accepted texts (1,045 pass every line and are 16)"; so do 306, 315, 328, 1,053
+/// and 1,066.
 /// What follows is answered alike, however much it is.
 pub fn edges_of_the_length() -> Vec<Edge> {
     let short = SHORT.map(|form| (form, 14, form.lines + 1));
@@ -392,8 +602,8 @@ pub fn edges_of_the_length() -> Vec<Edge> {
 
 /// All of these. What is accepted of them says settings C.
 pub fn edges() -> Vec<Edge> {
-    let in_lines = [edges_after_set_3(), edges_of_the_keys(), edges_of_the_mean()].concat();
-    [in_lines, edges_of_the_end(), edges_of_the_length()].concat()
+    let in_lines = [edges_of_the_keys(), edges_of_the_mean(), edges_of_the_jump()].concat();
+    [edges_after_set_3(), in_lines, edges_of_the_end(), edges_of_the_length()].concat()
 }
 
 /// The same texts with what a program writes of each, where it writes `taken` of those accepted.
