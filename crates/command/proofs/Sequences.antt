@@ -1,12 +1,17 @@
--- Things done one after the other: one more at the end, and in two worlds.
+-- Things done one after the other: some, and then others; and in two worlds.
 use mathlib.Core.Path.{_≡_, refl, ap, _∙_}
 use mathlib.Core.List.{List, [], _∷_, _++_, map}
 use Rattle.command.specs.Sequence.{after, each}
 
+pub after-append : {S X : Type 0} (step : S → X → S) (s : S) (xs ys : List X) → after step s (xs ++ ys) ≡ after step (after step s xs) ys
+unfolding after
+after-append step s [] ys = refl
+after-append step s (x ∷ xs) ys = after-append step (step s x) xs ys
+
+-- one more at the end
 pub after-snoc : {S X : Type 0} (step : S → X → S) (s : S) (xs : List X) (x : X) → after step s (xs ++ (x ∷ [])) ≡ step (after step s xs) x
 unfolding after
-after-snoc step s [] x = refl
-after-snoc step s (y ∷ xs) x = after-snoc step (step s y) xs x
+after-snoc step s xs x = after-append step s xs (x ∷ [])
 
 -- f carries the states of one world into the other, g the things done: what one step keeps, a list of them keeps
 module _ {S X S′ X′ : Type 0} (f : S → S′) (g : X → X′) (step : S → X → S) (step′ : S′ → X′ → S′)

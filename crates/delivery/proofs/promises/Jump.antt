@@ -46,7 +46,13 @@ module _ (s : Numbered) (ds : List (Delivery Command)) where
   -- in automatic. No other sample stands between them; other commands may
   pub never-further : (front between rest : List Command) (a b : ℤ) → keptOn s ds ≡ (front ++ (Sample a ∷ between)) ++ (Sample b ∷ rest) →
       samples between ≡ 0 → obeyed (s .state) (front ++ (Sample a ∷ between)) .automatic ≡ true → pos (size (b -ℤ a)) ≤ℤ s .state .settings .jump
-  never-further front between rest a b e n m = ?
+  unfolding after
+  never-further front between rest a b e n m =
+      let l = obeyed (s .state) front in
+      let x = after-append stepOf (s .state) front (Sample a ∷ between) in
+      let k = kept-there (front ++ (Sample a ∷ between)) (Sample b) rest e in
+      let h = neighbours l a b between n (ap (λ (y : Loop). y .automatic) (sym x) ∙ m) (ap (λ (y : Loop). refusalOf y (Sample b)) (sym x) ∙ k) in
+      rw (settings-after (s .state) front) at h
 
   -- and from a loop that is primed the first kept sample is no further from the last kept raw temperature, if it is kept in automatic
   pub first-near : (between rest : List Command) (b : ℤ) → keptOn s ds ≡ between ++ (Sample b ∷ rest) → samples between ≡ 0 →
