@@ -1,4 +1,5 @@
 pub mod Settings
+pub mod Guards
 pub mod Windows
 pub mod Samples
 pub mod Loops

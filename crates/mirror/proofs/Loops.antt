@@ -17,11 +17,12 @@ use Rattle.window.specs.Window.{freshWindow}
 use Rattle.pid.specs.declared.record.Loop.{Loop}
 use Rattle.pid.specs.Units.{F, B, fineReach}
 use Rattle.pid.specs.Record.{freshOf, valid}
-use Rattle.pid.specs.Law.{signOf, fixedOf, movingOf, readAt, sampleOf, stepOf, refusalOf, lawOf}
+use Rattle.pid.specs.Law.{signOf, fixedOf, movingOf, guardOf, readAt, sampleOf, stepOf, refusalOf, lawOf}
 use Rattle.pid.proofs.Sound.{Holds, holds-of, within-table, fixed-ok}
 use Rattle.pid.proofs.Shapes.{fixed-is}
 use Rattle.mirror.specs.Mirror.{Mirror, ofAction, ofTemperatures, flipTemperature, flipAction, flipSettings, flipCommand, flipLoop, flipObeyed}
 use Rattle.mirror.proofs.Settings.{range-neg, range-temperature, zero-temperature, table-mirror, ordered-mirror}
+use Rattle.mirror.proofs.Guards.{code-mirror}
 use Rattle.mirror.proofs.Windows.{window-mirror, taken-mirror, mean-mirror}
 use Rattle.mirror.proofs.Samples.{flipSign, flipFixed, moved-mirror}
 
@@ -33,11 +34,11 @@ fresh-mirror ofTemperatures s = refl
 pub valid-mirror : (k : Mirror) (l : Loop) → valid (flipLoop k l) ≡ valid l
 unfolding valid
 valid-mirror k l =
-    simp (table-mirror k (l .settings), ordered-mirror k (l .settings), range-temperature k reach (l .w), range-temperature k reach (l .target), inside-neg (l .settings .lo) (l .settings .hi) (l .u), range-neg B (l .integral), range-temperature k fineReach (l .y), zero-temperature k (l .y), window-mirror k (l .window))
+    simp (table-mirror k (l .settings), ordered-mirror k (l .settings), range-temperature k reach (l .w), range-temperature k reach (l .target), inside-neg (l .settings .lo) (l .settings .hi) (l .u), range-neg B (l .integral), range-temperature k fineReach (l .y), zero-temperature k (l .y), window-mirror k (l .window), range-temperature k reach (l .raw), zero-temperature k (l .raw))
 
 pub refusal-mirror : (k : Mirror) (l : Loop) (c : Command) → refusalOf (flipLoop k l) (flipCommand k c) ≡ refusalOf l c
 unfolding refusalOf
-refusal-mirror k l (Sample pv) = rw (range-temperature k reach pv)
+refusal-mirror k l (Sample pv) = code-mirror k (guardOf l) pv
 refusal-mirror k l Hold = refl
 refusal-mirror k l (Put x) = rw (inside-neg (l .settings .lo) (l .settings .hi) x)
 refusal-mirror k l Automatic = refl

@@ -9,26 +9,20 @@ use lib.IntN.{ℤ, negℤ}
 use lib.ListN.{length, length-map}
 use Rattle.whole.proofs.Truth.{by-test}
 use Rattle.whole.proofs.Lists.{map-join, map-drop}
-use Rattle.settings.specs.Table.{reach}
-use Rattle.window.proofs.Bad.{first-good}
-use Rattle.window.specs.Means.{firstBad, frontFilled}
+use Rattle.temperature.specs.Temperature.{firstCode}
+use Rattle.window.specs.Means.{frontFilled}
 use Rattle.command.specs.declared.Command.the-variants.{Sample}
 use Rattle.command.specs.Sequence.{after, each}
 use Rattle.pid.specs.declared.record.Loop.{Loop}
 use Rattle.pid.specs.Record.{valid}
+use Rattle.pid.specs.Law.{guardOf}
 use Rattle.pid.specs.Play.{sampled, afterSamples, outputsOf, playRefusal, playedOf, wroteOf}
 use Rattle.pid.proofs.Sound.{holds-of}
 use Rattle.pid.proofs.Kept.{step-valid}
-use Rattle.pid.proofs.Obeys.{sample-taken}
-use Rattle.pid.proofs.Plays.{playable}
+use Rattle.pid.proofs.Plays.{good-first, playable}
 use Rattle.mirror.specs.Mirror.{Mirror, flipTemperature, flipLoop, flipPlayed}
-use Rattle.mirror.proofs.Settings.{range-temperature}
+use Rattle.mirror.proofs.Guards.{bad-mirror, first-mirror}
 use Rattle.mirror.proofs.Loops.{valid-mirror, step-mirror}
-
-pub bad-mirror : (k : Mirror) (pvs : List ℤ) → firstBad (map (flipTemperature k) pvs) ≡ firstBad pvs
-unfolding firstBad
-bad-mirror k [] = refl
-bad-mirror k (pv ∷ pvs) = rw (range-temperature k reach pv, bad-mirror k pvs)
 
 -- the front of a list that is filled
 pub filled-mirror : (us out : List ℤ) → frontFilled (map negℤ us) (map negℤ out) ≡ map negℤ (frontFilled us out)
@@ -39,36 +33,36 @@ filled-mirror us out = rw (length-map us negℤ, map-drop negℤ, ← map-join n
 sampled-mirror : (k : Mirror) (l : Loop) (pv : ℤ) → valid l ≡ true → sampled (flipLoop k l) (flipTemperature k pv) ≡ flipLoop k (sampled l pv)
 sampled-mirror k l pv v = step-mirror k l (holds-of l v) (Sample pv)
 
-after-mirror : (k : Mirror) (l : Loop) (pvs : List ℤ) → valid l ≡ true → firstBad pvs ≡ length pvs →
+after-mirror : (k : Mirror) (l : Loop) (pvs : List ℤ) → valid l ≡ true → firstCode (guardOf l) pvs ≡ 0 →
     afterSamples (flipLoop k l) (map (flipTemperature k) pvs) ≡ flipLoop k (afterSamples l pvs)
 unfolding after
 after-mirror k l [] v g = refl
 after-mirror k l (pv ∷ pvs) v g =
-    let h = first-good pv pvs g in
+    let h = good-first l pv pvs g in
     ap (λ (m : Loop). afterSamples m (map (flipTemperature k) pvs)) (sampled-mirror k l pv v)
-    ∙ after-mirror k (sampled l pv) pvs (step-valid l (Sample pv) v (sample-taken l pv (h .0))) (h .1)
+    ∙ after-mirror k (sampled l pv) pvs (step-valid l (Sample pv) v (h .0)) (h .1)
 
-outputs-mirror : (k : Mirror) (l : Loop) (pvs : List ℤ) → valid l ≡ true → firstBad pvs ≡ length pvs →
+outputs-mirror : (k : Mirror) (l : Loop) (pvs : List ℤ) → valid l ≡ true → firstCode (guardOf l) pvs ≡ 0 →
     outputsOf (flipLoop k l) (map (flipTemperature k) pvs) ≡ map negℤ (outputsOf l pvs)
 unfolding each
 outputs-mirror k l [] v g = refl
 outputs-mirror k l (pv ∷ pvs) v g =
-    let h = first-good pv pvs g in
+    let h = good-first l pv pvs g in
     rw (sampled-mirror k l pv v)
     (ap (λ (us : List ℤ). negℤ (sampled l pv .u) ∷ us)
-    (outputs-mirror k (sampled l pv) pvs (step-valid l (Sample pv) v (sample-taken l pv (h .0))) (h .1)))
+    (outputs-mirror k (sampled l pv) pvs (step-valid l (Sample pv) v (h .0)) (h .1)))
 
 -- ---- any list, from any record
 
 module _ (k : Mirror) (l : Loop) (pvs : List ℤ) where
   refusal-mirror : (room : ℕ) → playRefusal (flipLoop k l) (map (flipTemperature k) pvs) room ≡ playRefusal l pvs room
   unfolding playRefusal
-  refusal-mirror room = rw (valid-mirror k l, bad-mirror k pvs, length-map pvs (flipTemperature k))
+  refusal-mirror room = rw (valid-mirror k l, first-mirror k (guardOf l) pvs, length-map pvs (flipTemperature k))
 
   pub played-mirror : (room : ℕ) → playedOf (flipLoop k l) (map (flipTemperature k) pvs) room ≡ flipPlayed k (playedOf l pvs room)
   unfolding playedOf
   played-mirror room =
-      rw (refusal-mirror room, bad-mirror k pvs)
+      rw (refusal-mirror room, bad-mirror k (guardOf l) pvs)
       (by-test (eqb (playRefusal l pvs room) 0)
       (λ e. let p = playable l pvs room (eqb-true _ 0 e) in rw (e, after-mirror k l pvs (p .rules) (p .good)))
       (λ e. rw e))

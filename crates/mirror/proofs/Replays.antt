@@ -9,12 +9,14 @@ use Rattle.whole.proofs.Truth.{push}
 use Rattle.command.specs.declared.Command.{Command}
 use Rattle.command.specs.declared.Command.the-variants.{Sample}
 use Rattle.command.specs.Sequence.{each}
+use Rattle.pid.specs.Law.{guardOf}
 use Rattle.memory.specs.Walk.{Delivery, Answer}
 use Rattle.delivery.specs.declared.numbered.Numbered.{Numbered}
 use Rattle.delivery.specs.Demand3.{answered, handedBack}
 use Rattle.delivery.specs.Replay.{numbered, deliveredOutputs, replayRefusal, replayedOf, writtenOf}
 use Rattle.mirror.specs.Mirror.{Mirror, flipTemperature, flipNumbered, flipDelivery, flipAnswer, flipReplayed}
-use Rattle.mirror.proofs.Plays.{bad-mirror, filled-mirror}
+use Rattle.mirror.proofs.Guards.{bad-mirror, first-mirror}
+use Rattle.mirror.proofs.Plays.{filled-mirror}
 use Rattle.mirror.proofs.Deliveries.{valid-of-mirror, after-mirror, answers-mirror}
 
 numbered-mirror : (k : Mirror) (n : ℕ) (pvs : List ℤ) → numbered n (map (flipTemperature k) pvs) ≡ map (flipDelivery k) (numbered n pvs)
@@ -26,12 +28,12 @@ numbered-mirror k n (pv ∷ pvs) =
 module _ (k : Mirror) (s : Numbered) (first : ℕ) (pvs : List ℤ) where
   refusal-mirror : (room : ℕ) → replayRefusal (flipNumbered k s) first (map (flipTemperature k) pvs) room ≡ replayRefusal s first pvs room
   unfolding replayRefusal
-  refusal-mirror room = rw (valid-of-mirror k s, bad-mirror k pvs, length-map pvs (flipTemperature k))
+  refusal-mirror room = rw (valid-of-mirror k s, first-mirror k (guardOf (s .state)) pvs, length-map pvs (flipTemperature k))
 
   pub replayed-mirror : (room : ℕ) → replayedOf (flipNumbered k s) first (map (flipTemperature k) pvs) room ≡ flipReplayed k (replayedOf s first pvs room)
   unfolding replayedOf
   replayed-mirror room =
-      rw (refusal-mirror room, bad-mirror k pvs, length-map pvs (flipTemperature k), numbered-mirror k first pvs, after-mirror k s (numbered first pvs))
+      rw (refusal-mirror room, bad-mirror k (guardOf (s .state)) pvs, length-map pvs (flipTemperature k), numbered-mirror k first pvs, after-mirror k s (numbered first pvs))
       (push (flipReplayed k) (eqb (replayRefusal s first pvs room) 0) _ _)
 
   outputs-mirror : deliveredOutputs (flipNumbered k s) first (map (flipTemperature k) pvs) ≡ map negℤ (deliveredOutputs s first pvs)

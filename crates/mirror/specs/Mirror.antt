@@ -27,7 +27,7 @@ pub data Mirror : Type 0 where
 
 -- ---- numbers. Outputs, limits and integrals change sign in both
 
--- a temperature: what is measured, sp, targets, w and y
+-- a temperature: what is measured, the last kept raw one, sp, targets, w and y
 abbrev pub flipTemperature : Mirror → ℤ → ℤ
 flipTemperature ofAction z = z
 flipTemperature ofTemperatures z = negℤ z
@@ -48,6 +48,7 @@ flipSettings k s = record {
   sp = flipTemperature k (s .sp);
   rate = s .rate;
   mean = s .mean;
+  jump = s .jump;
   gains = s .gains;
 }
 
@@ -80,6 +81,7 @@ flipLoop k l = record {
   primed = l .primed;
   y = flipTemperature k (l .y);
   window = flipWindow k (l .window);
+  raw = flipTemperature k (l .raw);
 }
 
 abbrev pub flipObeyed : Mirror → Obeyed → Obeyed

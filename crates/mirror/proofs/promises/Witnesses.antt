@@ -6,10 +6,10 @@ use mathlib.Core.List.{List, [], _∷_, _++_, map}
 use lib.ListN.{take}
 use lib.IntN.{ℤ, pos, negsuc, negℤ, _-ℤ_, _*ℤ_}
 use Rattle.settings.specs.declared.Settings.{Settings}
-use Rattle.settings.specs.Table.{shortSets, rowsOf}
+use Rattle.settings.specs.Table.{farthest, shortSets, rowsOf}
 use Rattle.settings.specs.Settings.{filled, inTable}
 use Rattle.settings.specs.SettingsC.{gainSet}
-use Rattle.window.specs.Means.{firstBad}
+use Rattle.temperature.specs.Temperature.{codeOf, firstCode}
 use Rattle.command.specs.declared.Command.{Command}
 use Rattle.command.specs.declared.Command.the-variants.{Sample, Put, Automatic, Set}
 use Rattle.command.specs.Sequence.{after, each}
@@ -43,6 +43,7 @@ like action lo hi out sp = filled shortSets (record {
   sp = sp;
   rate = pos 50;
   mean = pos 1;
+  jump = pos farthest;
   gains =
       gainSet 0 0 0 1 0
       ∷ gainSet 65536 0 32768 32768 32768
@@ -186,7 +187,7 @@ pub mirrored :
       played = negℤ (pos 1000) ∷ negℤ (pos 999) ∷ negℤ (pos 7) ∷ [];
       replayed = negℤ (pos 1000) ∷ negℤ (pos 999) ∷ negℤ (pos 7) ∷ [];
     })
-unfolding Loop·madeOf rounded rowsOf inTable freshWindow taken meanAt windowOk valid lesser greater limited ramped filtered derivative sensedOf clamped backCalculated integrated actedOf sampleOf stepOf refusalOf lawOf isLast foundBy servedOf deliveredOf after each firstBad playRefusal wroteOf numbered replayRefusal writtenOf
+unfolding Loop·madeOf rounded rowsOf inTable freshWindow taken meanAt windowOk valid lesser greater limited ramped filtered derivative sensedOf clamped backCalculated integrated actedOf sampleOf stepOf refusalOf lawOf isLast foundBy servedOf deliveredOf after each codeOf firstCode playRefusal wroteOf numbered replayRefusal writtenOf
 mirrored = (refl, refl, refl)
 
 -- ---- "no value being the least of its type"
