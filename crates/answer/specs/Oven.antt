@@ -27,7 +27,7 @@ outputLine output = decimal output ++ bytes "\n"
 unfoldable pub byAnswer : Delivered → Verdict
 byAnswer d = cond (eqb (d .code) 0) (answered (d .state) (outputLine (d .output))) (refused (d .state) (d .code))
 
--- "else a sample past the last number is 13, and one out of range 4"
+-- "else a sample past the last number is 13, and one out of range 4", or 19 where it jumps
 unfoldable pub bySample : Numbered → ℤ → Verdict
 bySample l pv = cond (eqb (l .memory .number) lastNumber) (refused l 13) (byAnswer (sampledOf l pv))
 

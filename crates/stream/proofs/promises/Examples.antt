@@ -3,9 +3,11 @@ use Prim.Native.Nat.{ℕ}
 use mathlib.Core.Path.{_≡_, refl, ap, _∙_}
 use mathlib.Core.Bool.{false}
 use mathlib.Core.List.{List, [], _∷_, _++_}
+use lib.IntN.{pos}
 use Rattle.whole.specs.Words.{bytes}
 use Rattle.settings.specs.Table.{rowsOf}
 use Rattle.settings.specs.Settings.{inTable}
+use Rattle.settings.specs.SettingsC.{settingsWith}
 use Rattle.pid.specs.Units.{rounded}
 use Rattle.pid.specs.Record.{valid, madeOf}
 use Rattle.pid.specs.Sample.{lesser, greater, limited, ramped, filtered, derivative, sensedOf, clamped, backCalculated, integrated, actedOf}
@@ -16,6 +18,7 @@ use Rattle.text.specs.declared.reader.Reading.{Reading}
 use Rattle.word.specs.Decimal.{isSize, hasMinus, unsigned, sizeOf, isDecimal, numberOf, shown}
 use Rattle.text.specs.Reader.{readText}
 use Rattle.text.proofs.SettingsC.{textC, c-read}
+use Rattle.temperature.specs.Temperature.{codeOf}
 use Rattle.window.specs.Window.{freshWindow, taken, meanAt, windowOk}
 use Rattle.stream.specs.Run.{refusedLine, keeping}
 use Rattle.answer.specs.Oven.{byAnswer, bySample, sampleLine}
@@ -46,6 +49,10 @@ empty = record { file = []; output = [] }
 pub unended : Case
 unended = record { file = bytes "480\n480"; output = bytes "100\nrefused 14 2\n" }
 
+-- with jump 10, a sample further away is refused 19 with its line (02, request 8)
+pub wild : Case
+wild = record { file = bytes "480\n490\n479\n"; output = bytes "100\n93\nrefused 19 3\n" }
+
 pub outputs : List Case → List (List ℕ)
 outputs [] = []
 outputs (c ∷ cs) = c .output ∷ outputs cs
@@ -58,7 +65,7 @@ pub cases : List Case
 cases = three ∷ malformed ∷ range ∷ empty ∷ unended ∷ []
 
 -- the same from what the settings text is read as
-playedBy : Reading → List Case → List (List ℕ)
+pub playedBy : Reading → List Case → List (List ℕ)
 playedBy d [] = []
 playedBy d (c ∷ cs) = (begunBy false d .text ++ runOver (begunBy false d .run) (c .file)) ∷ playedBy d cs
 
@@ -68,5 +75,9 @@ by-reading [] = refl
 by-reading (c ∷ cs) = ap (λ (os : List (List ℕ)). outputOf false textC (c .file) ∷ os) (by-reading cs)
 
 pub examples : played cases ≡ outputs cases
-unfolding rowsOf inTable rounded freshWindow taken meanAt windowOk valid madeOf lesser greater limited ramped filtered derivative sensedOf clamped backCalculated integrated actedOf sampleOf stepOf refusalOf isLast foundBy servedOf deliveredOf isSize hasMinus unsigned sizeOf isDecimal numberOf shown refusedLine keeping byAnswer bySample sampleLine judging byteOf finishing firstLoop begunBy playedBy three malformed range empty unended outputs cases
+unfolding rowsOf inTable rounded freshWindow taken meanAt windowOk valid madeOf lesser greater limited ramped filtered derivative sensedOf clamped backCalculated integrated actedOf codeOf sampleOf stepOf refusalOf isLast foundBy servedOf deliveredOf isSize hasMinus unsigned sizeOf isDecimal numberOf shown refusedLine keeping byAnswer bySample sampleLine judging byteOf finishing firstLoop begunBy playedBy three malformed range empty unended outputs cases
 examples = by-reading cases ∙ ap (λ (d : Reading). playedBy d cases) c-read ∙ refl
+
+pub wild-refused : playedBy (record { code = 0; line = 0; settings = settingsWith (pos 1) (pos 10) }) (wild ∷ []) ≡ outputs (wild ∷ [])
+unfolding rowsOf inTable rounded freshWindow taken meanAt windowOk valid madeOf lesser greater limited ramped filtered derivative sensedOf clamped backCalculated integrated actedOf codeOf sampleOf stepOf refusalOf isLast foundBy servedOf deliveredOf isSize hasMinus unsigned sizeOf isDecimal numberOf shown refusedLine keeping byAnswer bySample sampleLine judging byteOf finishing firstLoop begunBy playedBy wild outputs
+wild-refused = refl
