@@ -19,6 +19,9 @@ pub const WINDOW: usize = 128;
 /// Temperatures lie in -REACH..=REACH.
 const REACH: i32 = 1_000_000;
 
+/// What no two of them are apart by more than.
+const FURTHEST: u32 = 2_000_000;
+
 #[derive(Clone, Copy)]
 pub struct Gains {
     pub kp: i64,
@@ -37,7 +40,7 @@ pub struct Settings {
     pub sp: i64,
     pub rate: i64,
     pub mean: usize,
-    pub jump: i32,
+    pub jump: u32,
     pub gains: [Gains; SETS],
 }
 
@@ -112,7 +115,7 @@ impl Settings {
             sp: value(4),
             rate: value(5),
             mean: values[MEAN] as usize,
-            jump: values[JUMP],
+            jump: values[JUMP] as u32,
             gains: std::array::from_fn(gains),
         }
     }
@@ -200,13 +203,13 @@ impl Loop {
 
     /// In manual no sample is too far, and the first sample of all is held against itself.
     fn first_bad(&self, samples: &[i32]) -> Option<Refused> {
-        let jump = if self.automatic { self.settings.jump } else { 2 * REACH };
+        let jump = if self.automatic { self.settings.jump } else { FURTHEST };
         let mut before = if self.primed { self.raw } else { *samples.first()? };
         samples.iter().enumerate().find_map(|(place, &pv)| {
             if !(-REACH..=REACH).contains(&pv) {
                 return Some(Refused { code: 4, place });
             }
-            if (pv - before).abs() > jump {
+            if pv.abs_diff(before) > jump {
                 return Some(Refused { code: 19, place });
             }
             before = pv;
