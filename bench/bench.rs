@@ -3,7 +3,7 @@
 mod count;
 mod rewrite;
 
-use rewrite::{Loop, GAINS, MEAN, ONCE, SETS, VALUES};
+use rewrite::{Loop, Refused, GAINS, JUMP, MEAN, ONCE, SETS, VALUES};
 use std::arch::asm;
 use std::time::Instant;
 
@@ -15,9 +15,13 @@ const TARGET: i32 = 800;
 /// The sets of settings C that document 01 lists.
 const LISTED: usize = 4;
 
-/// Settings C of document 01 with mean 1, in the order of the text.
+/// A jump that refuses nothing, and the one that is just enough for the smooth series.
+const ANY: i32 = 2_000_000;
+const ENOUGH: i32 = 3;
+
+/// Settings C of document 01 with mean 1 and a jump that refuses nothing, in the order of the text.
 const SHORT: [i32; ONCE + GAINS * LISTED] = [
-    0, 0, 1000, 100, 500, 50, 1, //
+    0, 0, 1000, 100, 500, 50, 1, ANY, //
     65536, 16384, 0, 65536, 0, //
     131072, 16384, 65536, 32768, 0, //
     65536, 16384, 0, 65536, 32768, //
@@ -41,10 +45,14 @@ extern "C" {
         values_len: usize,
         set: i32,
         target: i32,
+        before: i32,
+        held: i32,
+        first: u32,
         samples: *const i32,
         samples_len: usize,
         out: *mut i32,
         out_len: usize,
+        place: *mut usize,
     ) -> i32;
 }
 
@@ -56,10 +64,11 @@ fn hidden<T>(x: T) -> T {
     x
 }
 
-/// A loop of settings C with this mean and gain set.
+/// A loop of settings C with this mean, jump and gain set.
 #[derive(Clone, Copy)]
 struct Case {
     mean: i32,
+    jump: i32,
     set: usize,
 }
 
@@ -67,30 +76,47 @@ impl Case {
     fn values(self) -> [i32; VALUES] {
         let mut values = C;
         values[MEAN] = self.mean;
+        values[JUMP] = self.jump;
         values
     }
 }
 
-type Replay = fn(Case, &[i32], &mut [i32]) -> i32;
+type Replay = fn(Case, &[i32], &mut [i32]) -> Result<(), Refused>;
 
-fn proved(case: Case, samples: &[i32], out: &mut [i32]) -> i32 {
+/// The sample before the replay is refused, so that the replay's first is the first of all; it has number 4.
+fn proved(case: Case, samples: &[i32], out: &mut [i32]) -> Result<(), Refused> {
     let values = case.values();
-    let set = case.set as i32;
-    unsafe {
-        port_replay(values.as_ptr(), values.len(), set, TARGET, samples.as_ptr(), samples.len(), out.as_mut_ptr(), out.len())
+    let (set, before, held, first) = (case.set as i32, i32::MAX, 0, 4);
+    let mut place = 0;
+    let code = unsafe {
+        port_replay(
+            values.as_ptr(),
+            values.len(),
+            set,
+            TARGET,
+            before,
+            held,
+            first,
+            samples.as_ptr(),
+            samples.len(),
+            out.as_mut_ptr(),
+            out.len(),
+            &mut place,
+        )
+    };
+    match code {
+        0 => Ok(()),
+        _ => Err(Refused { code, place }),
     }
 }
 
-fn rust(case: Case, samples: &[i32], out: &mut [i32]) -> i32 {
-    match Loop::new(hidden(&case.values()), case.set, TARGET).replay(samples, out) {
-        Ok(()) => 0,
-        Err(_) => 4,
-    }
+fn rust(case: Case, samples: &[i32], out: &mut [i32]) -> Result<(), Refused> {
+    Loop::new(hidden(&case.values()), case.set, TARGET).replay(samples, out)
 }
 
 fn run(replay: Replay, case: Case, samples: &[i32], out: &mut [i32]) {
-    let code = hidden(replay(hidden(case), hidden(samples), out));
-    assert_eq!(code, 0, "the replay is refused");
+    let done = hidden(replay(hidden(case), hidden(samples), out));
+    assert_eq!(done, Ok(()), "the replay is refused");
 }
 
 /// Exact: what 1,000 more samples add.
@@ -128,6 +154,17 @@ fn series(wild: bool) -> Vec<i32> {
     (0..SAMPLES).map(|_| next()).collect()
 }
 
+/// The earliest sample further than a jump one less than enough is refused by both.
+fn refused_alike() {
+    let case = Case { mean: 1, jump: ENOUGH - 1, set: 0 };
+    let samples = series(false);
+    let mut out = vec![0; SAMPLES];
+    let place = (1..SAMPLES).find(|&i| (samples[i] - samples[i - 1]).abs() == ENOUGH).expect("the series is smooth");
+    for replay in [proved, rust] {
+        assert_eq!(replay(case, &samples, &mut out), Err(Refused { code: 19, place }));
+    }
+}
+
 /// One line of the report, and whether both ratios are within bounds.
 fn compare(case: Case, wild: bool, emulated: bool) -> bool {
     let samples = series(wild);
@@ -142,9 +179,9 @@ fn compare(case: Case, wild: bool, emulated: bool) -> bool {
     let (steps, rust_steps) = (instructions(proved, case, &samples), instructions(rust, case, &samples));
     let (time, rust_time) = (median(a), median(b));
     let name = if wild { "wild" } else { "smooth" };
-    let Case { mean, set } = case;
+    let Case { mean, jump, set } = case;
     println!(
-        "mean {mean:3} set {set:2} {name:6}  instructions a sample {steps:6.2} to {rust_steps:6.2}, ratio {:.3}  time {:6.2} ms to {:6.2} ms, ratio {:.3}{}",
+        "mean {mean:3} set {set:2} {name:6} jump {jump:7}  instructions a sample {steps:6.2} to {rust_steps:6.2}, ratio {:.3}  time {:6.2} ms to {:6.2} ms, ratio {:.3}{}",
         steps / rust_steps,
         time * 1e3,
         rust_time * 1e3,
@@ -156,8 +193,8 @@ fn compare(case: Case, wild: bool, emulated: bool) -> bool {
 
 /// With mean 1 the sets that differ, and the last; with a mean over few and over all that the window holds, two of them.
 fn cases() -> impl Iterator<Item = Case> {
-    let each = (0..LISTED).chain([SETS - 1]).map(|set| Case { mean: 1, set });
-    let means = [7, 128].into_iter().flat_map(|mean| [0, 1].map(|set| Case { mean, set }));
+    let each = (0..LISTED).chain([SETS - 1]).map(|set| Case { mean: 1, jump: ANY, set });
+    let means = [7, 128].into_iter().flat_map(|mean| [0, 1].map(|set| Case { mean, jump: ANY, set }));
     each.chain(means)
 }
 
@@ -165,9 +202,10 @@ fn main() {
     let emulated = std::env::var("X86_EMULATED").is_ok();
     println!("a replay of {SAMPLES} samples, proved to ordinary Rust");
     let mut within = true;
+    refused_alike();
     for case in cases() {
-        for wild in [false, true] {
-            within &= compare(case, wild, emulated);
+        for (wild, jump) in [(false, ENOUGH), (false, ANY), (true, ANY)] {
+            within &= compare(Case { jump, ..case }, wild, emulated);
         }
     }
     println!("{}", if within { "every ratio within 1.5" } else { "A RATIO ABOVE 1.5" });

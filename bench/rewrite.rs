@@ -1,19 +1,26 @@
-//! A replay as an engineer would write it in ordinary Rust: the record by `&mut`, one pass for the range, one for the law; the
-//! mean by a running sum and a reciprocal, and the window written once, at the end. Numbers are 64 bits wide within the record,
-//! which is the faster of the two ways. It is what the proved replay is measured against, and stays as it is.
+//! A replay as an engineer would write it in ordinary Rust: the record by `&mut`, one pass for the samples that are refused, one
+//! for the law; the mean by a running sum and a division, and the window written once, at the end. Numbers are 64 bits wide within
+//! the record, which is the faster of the two ways, but for raw temperatures. It is what the proved replay is measured against, and stays as it is.
 
 pub const F: i64 = 65_536;
 pub const B: i64 = 16_842_752_000_000;
 
 /// The gain sets of a loop, the values before them in the text, and those of each.
 pub const SETS: usize = 16;
-pub const ONCE: usize = 7;
+pub const ONCE: usize = 8;
 pub const GAINS: usize = 5;
 pub const VALUES: usize = ONCE + GAINS * SETS;
 
-/// Where the mean stands among the values, and the temperatures that a loop keeps for it.
+/// Where the mean and the jump stand among the values, and the temperatures that a loop keeps for the mean.
 pub const MEAN: usize = 6;
+pub const JUMP: usize = 7;
 pub const WINDOW: usize = 128;
+
+/// Temperatures lie in -REACH..=REACH.
+const REACH: i32 = 1_000_000;
+
+/// What no two of them are apart by more than.
+const FURTHEST: u32 = 2_000_000;
 
 #[derive(Clone, Copy)]
 pub struct Gains {
@@ -33,6 +40,7 @@ pub struct Settings {
     pub sp: i64,
     pub rate: i64,
     pub mean: usize,
+    pub jump: u32,
     pub gains: [Gains; SETS],
 }
 
@@ -63,8 +71,16 @@ pub struct Loop {
     pub y: i64,
     pub window: [i32; WINDOW],
     pub seen: usize,
+    pub raw: i32,
     pub number: u32,
     pub last: Option<Command>,
+}
+
+/// The earliest sample that is refused: 4 out of range, 19 further than the jump from the one before.
+#[derive(Debug, PartialEq, Eq)]
+pub struct Refused {
+    pub code: i32,
+    pub place: usize,
 }
 
 /// To the nearest, halves away from zero.
@@ -99,6 +115,7 @@ impl Settings {
             sp: value(4),
             rate: value(5),
             mean: values[MEAN] as usize,
+            jump: values[JUMP] as u32,
             gains: std::array::from_fn(gains),
         }
     }
@@ -122,6 +139,7 @@ impl Loop {
             y: 0,
             window: [0; WINDOW],
             seen: 0,
+            raw: 0,
             number: 3,
             last: Some(Command::Target(target, values[5])),
         }
@@ -183,12 +201,28 @@ impl Loop {
         self.seen = WINDOW.min(self.seen + samples.len());
     }
 
-    /// The place of the first sample out of range is the refusal; nothing is changed then. The sum runs: what leaves it is one of
-    /// the record's temperatures, and then one of the samples.
+    /// In manual no sample is too far, and the first sample of all is held against itself.
+    fn first_bad(&self, samples: &[i32]) -> Option<Refused> {
+        let jump = if self.automatic { self.settings.jump } else { FURTHEST };
+        let mut before = if self.primed { self.raw } else { *samples.first()? };
+        samples.iter().enumerate().find_map(|(place, &pv)| {
+            if !(-REACH..=REACH).contains(&pv) {
+                return Some(Refused { code: 4, place });
+            }
+            if pv.abs_diff(before) > jump {
+                return Some(Refused { code: 19, place });
+            }
+            before = pv;
+            None
+        })
+    }
+
+    /// Nothing is changed where a sample is refused. The sum runs: what leaves it is one of the record's temperatures, and then one
+    /// of the samples.
     #[inline(never)]
-    pub fn replay(&mut self, samples: &[i32], out: &mut [i32]) -> Result<(), usize> {
-        if let Some(place) = samples.iter().position(|pv| !(-1_000_000..=1_000_000).contains(pv)) {
-            return Err(place);
+    pub fn replay(&mut self, samples: &[i32], out: &mut [i32]) -> Result<(), Refused> {
+        if let Some(refused) = self.first_bad(samples) {
+            return Err(refused);
         }
         let most = self.settings.mean;
         let window = self.window;
@@ -201,6 +235,7 @@ impl Loop {
         }
         self.keep(samples);
         if let Some(pv) = samples.last() {
+            self.raw = *pv;
             self.number += samples.len() as u32;
             self.last = Some(Command::Sample(*pv));
         }

@@ -1,8 +1,8 @@
-// The replay for programs in other languages: what the benchmark links.
+// The replay for programs in other languages: what the benchmark and the host's tests link.
 ghost use mathlib.Core.Path.{_≡_};
 ghost use lib.ListN.{length};
 ghost use Rattle.settings.specs.Table.{lines};
-ghost use Rattle.port.specs.Port.{readyOf, codeOf, outOf};
+ghost use Rattle.port.specs.Port.{aimedOf, readyOf, codeOf, placeOf, outOf};
 use command::Command;
 use delivery::numbered::Numbered;
 use settings::Settings;
@@ -21,9 +21,9 @@ fn values_of(list: &[i32]) -> [i32; Settings::LINES]
     values
 }
 
-// The loop that is replayed: made of these settings, automatic, with a gain set, and a target at the settings' rate.
-fn ready(settings: Settings, set: i32, target: i32) -> Numbered
-    ensures { λ r. ⌜ r ≡ readyOf settings set target ⌝ }
+// A loop made of these settings, automatic, with a gain set, and a target at the settings' rate.
+fn aimed(settings: Settings, set: i32, target: i32) -> Numbered
+    ensures { λ r. ⌜ r ≡ aimedOf settings set target ⌝ }
 {
     let made = Numbered::make(settings);
     let fresh = made.state;
@@ -35,22 +35,44 @@ fn ready(settings: Settings, set: i32, target: i32) -> Numbered
     third.state
 }
 
-// The code of a replay from that loop.
+// The loop that is replayed: after a sample, and after a hold where `held` is not 0. Where the sample is refused, nothing is
+// kept of either.
+fn ready(settings: Settings, set: i32, target: i32, before: i32, held: i32) -> Numbered
+    ensures { λ r. ⌜ r ≡ readyOf settings set target before held ⌝ }
+{
+    let state = aimed(settings, set, target);
+    let fourth = state.deliver(4, Command::Sample(before));
+    let sampled = fourth.state;
+    if whole::equal(held, 0) {
+        return sampled;
+    }
+    let fifth = sampled.deliver(5, Command::Hold);
+    fifth.state
+}
+
+// The code of a replay from that loop; the place where a sample is refused is written through `place`.
 #[no_mangle]
 pub extern "C" fn port_replay(
     values: &[i32],
     set: i32,
     target: i32,
+    before: i32,
+    held: i32,
+    first: u32,
     samples: &[i32],
     out: &mut [i32],
+    place: &mut usize,
 ) -> i32
-    ensures { λ r. ⌜ r ≡ codeOf (now (values .entry)) set target (now (samples .entry)) (length (now (out .entry))) ⌝ }
-    ensures { λ _. ⌜ now (out .exit) ≡ outOf (now (values .entry)) set target (now (samples .entry)) (now (out .entry)) ⌝ }
+    ensures { λ r. ⌜ r ≡ codeOf (now (values .entry)) set target before held first (now (samples .entry)) (length (now (out .entry))) ⌝ }
+    ensures { λ _. ⌜ now (place .exit) ≡ placeOf (now (values .entry)) set target before held first (now (samples .entry)) (length (now (out .entry))) ⌝ }
+    ensures { λ _. ⌜ now (out .exit) ≡ outOf (now (values .entry)) set target before held first (now (samples .entry)) (now (out .entry)) ⌝ }
 {
     if values.len() != Settings::LINES {
+        *place = 0;
         return 11;
     }
-    let start = ready(Settings::of(values_of(values)), set, target);
-    let done = start.replay(4, samples, out);
+    let start = ready(Settings::of(values_of(values)), set, target, before, held);
+    let done = start.replay(first, samples, out);
+    *place = done.place;
     done.code as i32
 }
