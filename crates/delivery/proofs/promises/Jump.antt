@@ -1,8 +1,10 @@
 -- 02, request 8, of deliveries. The law of demand 3 has the rule in its refusals (`refusalOf`), so `demand-3` speaks of it as it
 -- stands; what is said here is what the rule is for.
 use mathlib.Core.Path.{_≡_, refl, sym, ap, _∙_}
-use mathlib.Core.Bool.{true}
+use mathlib.Core.Bool.{true, false}
+use Prim.Native.Nat.{ℕ}
 use mathlib.Core.List.{List, [], _∷_, _++_}
+use lib.ListN.{length}
 use borrow.Author.Tests.{eqb-true}
 use lib.Dec.{eqb}
 use lib.IntN.{ℤ, pos, _-ℤ_}
@@ -10,22 +12,30 @@ use lib.Signed.{_≤ℤ_}
 use Rattle.whole.specs.Numbers.{size}
 use Rattle.whole.proofs.Truth.{both}
 use Rattle.settings.specs.declared.Settings.{Settings}
-use Rattle.settings.specs.Table.{farthest}
+use Rattle.settings.specs.Table.{farthest, rowsOf}
+use Rattle.settings.specs.Settings.{inTable}
+use Rattle.settings.specs.SettingsC.{settingsWith}
+use Rattle.temperature.specs.Temperature.{codeOf, firstBad, firstCode}
+use Rattle.window.specs.Window.{freshWindow, windowOk}
 use Rattle.command.specs.declared.Command.{Command}
-use Rattle.command.specs.declared.Command.the-variants.{Sample}
+use Rattle.command.specs.declared.Command.the-variants.{Sample, Automatic, Target}
 use Rattle.command.specs.Sequence.{after}
 use Rattle.command.proofs.Sequences.{after-append}
 use Rattle.pid.specs.declared.record.Loop.{Loop}
-use Rattle.pid.specs.Record.{valid}
-use Rattle.pid.specs.Law.{refusalOf, stepOf}
+use Rattle.pid.specs.Units.{fine}
+use Rattle.pid.specs.Record.{freshOf, valid}
+use Rattle.pid.specs.Sample.{actedOf}
+use Rattle.pid.specs.Law.{withMoving, withMode, sampleOf, refusalOf, stepOf}
 use Rattle.pid.specs.Plain.{plainRefusalOf}
 use Rattle.pid.specs.Run.{obeyed, accepted, samples}
 use Rattle.pid.proofs.Obeys.{settings-after}
 use Rattle.pid.proofs.promises.Jump.{farthest-is-plain, taken-is-near, neighbours}
-use Rattle.memory.specs.Walk.{Delivery}
+use Rattle.memory.specs.Walk.{Delivery, kept}
 use Rattle.delivery.specs.declared.numbered.Numbered.{Numbered}
-use Rattle.delivery.specs.Numbered.{memoryOk, validOf}
-use Rattle.delivery.specs.Demand3.{handedBack, standing, keptOn}
+use Rattle.delivery.specs.declared.replay.Replayed.{Replayed}
+use Rattle.delivery.specs.Numbered.{newOf, memoryOk, validOf}
+use Rattle.delivery.specs.Demand3.{handedBack, recalled, standing, keptOn}
+use Rattle.delivery.specs.Replay.{replayRefusal, refusedOf, replayedOf}
 use Rattle.delivery.proofs.Ended.{end-from, all-valid, kept-accepted}
 
 -- ---- "In automatic, a sample further than jump from the last kept raw temperature is refused"
@@ -68,3 +78,37 @@ module _ (s : Numbered) (ds : List (Delivery Command)) where
       let x = ap (λ (y : Numbered). y .state .settings .jump) (end-from s v ds) in
       let y = ap (λ (z : Settings). z .jump) (settings-after (s .state) (keptOn s ds)) in
       farthest-is-plain (t .state) c (both (memoryOk t) (valid (t .state)) (all-valid s ds v) .1) (x ∙ y ∙ j)
+
+-- ---- that there is something to speak of
+
+abbrev sent : ℕ → Command → Delivery Command
+sent number command = record { number = number; command = command }
+
+-- settings C with jump 10, automatic, with 480 kept
+abbrev tight : Numbered
+tight =
+    let l = freshOf (settingsWith (pos 1) (pos 10)) in
+    newOf
+    (withMoving (withMode l true false 0) (l .window) (pos 480)
+    (record { w = l .w; u = l .u; integral = fine 80 0; y = fine 480 0; primed = true; pending = false }))
+
+-- a wild reading is refused and leaves its number free, and the samples that are kept lie 10 apart
+pub wild-met :
+    let ds = sent 1 (Sample (pos 491)) ∷ sent 1 (Sample (pos 490)) ∷ sent 2 (Target (pos 800) (pos 50)) ∷ sent 3 (Sample (pos 501)) ∷ sent 3 (Sample (pos 500)) ∷ [] in
+    (keptOn tight ds ≡ ([] ++ (Sample (pos 490) ∷ Target (pos 800) (pos 50) ∷ [])) ++ (Sample (pos 500) ∷ []))
+    × (samples (Target (pos 800) (pos 50) ∷ []) ≡ 0)
+    × (obeyed (tight .state) (Sample (pos 490) ∷ Target (pos 800) (pos 50) ∷ []) .automatic ≡ true)
+    × (tight .state .primed ≡ true)
+unfolding actedOf codeOf sampleOf stepOf refusalOf kept recalled samples after
+wild-met = (refl, refl, refl, refl)
+
+-- "jump=10, last kept 480: [490, 479] is 19 at 1; [490, 501, 1000001] is 19 at 1; [490, 1000001, 5] is 4 at 1"
+abbrev replayed : List ℤ → Replayed
+replayed pvs = replayedOf tight 1 pvs (length pvs)
+
+pub replays-met :
+    (replayed (pos 490 ∷ pos 479 ∷ []) ≡ refusedOf tight 19 1)
+    × (replayed (pos 490 ∷ pos 501 ∷ pos 1000001 ∷ []) ≡ refusedOf tight 19 1)
+    × (replayed (pos 490 ∷ pos 1000001 ∷ pos 5 ∷ []) ≡ refusedOf tight 4 1)
+unfolding rowsOf inTable freshWindow windowOk valid codeOf firstBad firstCode replayRefusal replayedOf
+replays-met = (refl, refl, refl)
