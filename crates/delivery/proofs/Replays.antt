@@ -14,7 +14,8 @@ use Rattle.window.specs.Means.{frontFilled}
 use Rattle.command.specs.declared.Command.{Command}
 use Rattle.command.specs.declared.Command.the-variants.{Sample}
 use Rattle.pid.specs.declared.record.Loop.{Loop}
-use Rattle.pid.specs.Law.{guardOf, refusalOf, stepOf}
+use Rattle.pid.specs.Record.{guardOf}
+use Rattle.pid.specs.Law.{refusalOf, stepOf}
 use Rattle.command.specs.Sequence.{after, each}
 use Rattle.pid.specs.declared.play.Played.{Played}
 use Rattle.pid.specs.Play.{afterSamples, outputsOf, playRefusal, playedOf, wroteOf}

@@ -16,8 +16,8 @@ use Rattle.command.specs.declared.Command.the-variants.{Sample, Hold, Put, Auto
 use Rattle.window.specs.Window.{freshWindow}
 use Rattle.pid.specs.declared.record.Loop.{Loop}
 use Rattle.pid.specs.Units.{F, B, fineReach}
-use Rattle.pid.specs.Record.{freshOf, valid}
-use Rattle.pid.specs.Law.{signOf, fixedOf, movingOf, guardOf, readAt, sampleOf, stepOf, refusalOf, lawOf}
+use Rattle.pid.specs.Record.{freshOf, guardOf, valid}
+use Rattle.pid.specs.Law.{signOf, fixedOf, movingOf, readAt, sampleOf, stepOf, refusalOf, lawOf}
 use Rattle.pid.proofs.Sound.{Holds, holds-of, within-table, fixed-ok}
 use Rattle.pid.proofs.Shapes.{fixed-is}
 use Rattle.mirror.specs.Mirror.{Mirror, ofAction, ofTemperatures, flipTemperature, flipAction, flipSettings, flipCommand, flipLoop, flipObeyed}

@@ -14,8 +14,7 @@ use Rattle.window.specs.Means.{frontFilled}
 use Rattle.command.specs.declared.Command.the-variants.{Sample}
 use Rattle.command.specs.Sequence.{after, each}
 use Rattle.pid.specs.declared.record.Loop.{Loop}
-use Rattle.pid.specs.Record.{valid}
-use Rattle.pid.specs.Law.{guardOf}
+use Rattle.pid.specs.Record.{guardOf, valid}
 use Rattle.pid.specs.Play.{sampled, afterSamples, outputsOf, playRefusal, playedOf, wroteOf}
 use Rattle.pid.proofs.Sound.{holds-of}
 use Rattle.pid.proofs.Kept.{step-valid}

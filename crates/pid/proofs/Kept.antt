@@ -19,9 +19,9 @@ use Rattle.pid.specs.declared.law.Obeyed.{Obeyed}
 use Rattle.pid.specs.Units.{rounded}
 use Rattle.settings.specs.Table.{sets, inReach}
 use Rattle.settings.specs.Settings.{inTable, ordered}
-use Rattle.pid.specs.Record.{inRates, freshOf, valid}
+use Rattle.pid.specs.Record.{inRates, freshOf, guardOf, valid}
 use Rattle.pid.specs.Sample.{limited, actedOf, movedOf}
-use Rattle.pid.specs.Law.{fixedOf, movingOf, guardOf, readAt, withMode, withTarget, sampleOf, refusalOf, stepOf, lawOf}
+use Rattle.pid.specs.Law.{fixedOf, movingOf, readAt, withMode, withTarget, sampleOf, refusalOf, stepOf, lawOf}
 use Rattle.pid.specs.Bounds.{MovingOk}
 use Rattle.temperature.proofs.Ranged.{taken-reach}
 use Rattle.window.proofs.Rules.{fresh-ok, taken-ok}

@@ -16,8 +16,8 @@ use Rattle.command.specs.Sequence.{after}
 use Rattle.command.specs.declared.Command.{Command}
 use Rattle.command.specs.declared.Command.the-variants.{Sample, Hold, Put, Automatic, Target, Set}
 use Rattle.pid.specs.declared.record.Loop.{Loop}
-use Rattle.pid.specs.Record.{inRates, valid}
-use Rattle.pid.specs.Law.{guardOf, sampleOf, refusalOf, stepOf, lawOf}
+use Rattle.pid.specs.Record.{inRates, guardOf, valid}
+use Rattle.pid.specs.Law.{sampleOf, refusalOf, stepOf, lawOf}
 use Rattle.pid.specs.Run.{obeyed}
 
 module _ (l : Loop) (c : Command) where

@@ -22,9 +22,9 @@ use Rattle.command.specs.declared.Command.the-variants.{Sample}
 use Rattle.pid.specs.declared.record.Loop.{Loop}
 use Rattle.pid.specs.declared.sample.Moving.{Moving}
 use Rattle.pid.specs.declared.play.Played.{Played}
-use Rattle.pid.specs.Record.{valid}
+use Rattle.pid.specs.Record.{guardOf, valid}
 use Rattle.pid.specs.Sample.{actedOf, movedOf}
-use Rattle.pid.specs.Law.{withMoving, fixedOf, guardOf, sampleOf, refusalOf, stepOf}
+use Rattle.pid.specs.Law.{withMoving, fixedOf, sampleOf, refusalOf, stepOf}
 use Rattle.command.specs.Sequence.{after, each}
 use Rattle.command.proofs.Sequences.{after-through}
 use Rattle.pid.specs.Play.{sampled, afterSamples, outputsOf, playRefusal, refusedOf, placed, playedOf, wroteOf, readsOf, movedAfter, movedOutputs}

@@ -6,7 +6,6 @@ use lib.IntN.{ℤ, pos, negℤ, _*ℤ_}
 use Rattle.whole.specs.Numbers.{plus, eqZ, inside}
 use Rattle.command.specs.declared.Command.{Command}
 use Rattle.command.specs.declared.Command.the-variants.{Sample, Hold, Put, Automatic, Target, Set}
-use Rattle.temperature.specs.declared.Guard.{Guard}
 use Rattle.temperature.specs.Temperature.{codeOf}
 use Rattle.window.specs.declared.Window.{Window}
 use Rattle.window.specs.Window.{taken, meanAt}
@@ -17,7 +16,7 @@ use Rattle.pid.specs.declared.law.Obeyed.{Obeyed}
 use Rattle.pid.specs.Units.{F}
 use Rattle.settings.specs.Table.{sets, inReach}
 use Rattle.settings.specs.Settings.{gainsAt}
-use Rattle.pid.specs.Record.{inRates, valid}
+use Rattle.pid.specs.Record.{inRates, guardOf, valid}
 use Rattle.pid.specs.Sample.{movedOf}
 
 -- ---- the groups of fields that a command changes, each written out once
@@ -136,10 +135,6 @@ stepOf l (Target t r) = targetOf l t r
 stepOf l (Set k) = setOf l (plus k)
 
 -- ---- the refusals: "then content, with 6 before 5 and 7 before 8"
-
--- what a raw temperature is held against
-abbrev pub guardOf : Loop → Guard
-guardOf l = record { automatic = l .automatic; primed = l .primed; jump = l .settings .jump; raw = l .raw }
 
 -- "4: pv outside ±1,000,000", and "code 4 tests the raw one"; "In automatic, a sample further than jump from the last kept raw
 -- temperature is refused, code 19, tested after 4." (02, request 8)

@@ -13,9 +13,9 @@ use Rattle.pid.specs.declared.record.Loop.{Loop}
 use Rattle.pid.specs.declared.sample.Fixed.{Fixed}
 use Rattle.pid.specs.declared.sample.Moving.{Moving}
 use Rattle.pid.specs.declared.play.Played.{Played}
-use Rattle.pid.specs.Record.{valid}
+use Rattle.pid.specs.Record.{guardOf, valid}
 use Rattle.pid.specs.Sample.{movedOf}
-use Rattle.pid.specs.Law.{guardOf, stepOf}
+use Rattle.pid.specs.Law.{stepOf}
 use Rattle.command.specs.Sequence.{after, each}
 
 -- ---- the samples, each given once, in order

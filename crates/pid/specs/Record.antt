@@ -9,6 +9,8 @@ use Rattle.pid.specs.declared.record.Made.{Made}
 use Rattle.pid.specs.Units.{B, fineReach}
 use Rattle.settings.specs.Table.{inReach, fastest, sets}
 use Rattle.settings.specs.Settings.{inTable, ordered, settingsRefusal, blankSettings}
+use Rattle.temperature.specs.declared.Guard.{Guard}
+use Rattle.temperature.specs.Temperature.{guardOk}
 use Rattle.window.specs.Window.{freshWindow, windowOk}
 
 -- "A fresh loop: manual, not pending, set 0, w = target = sp, rate and u as set, I = 0, not primed, y = 0"
@@ -56,6 +58,10 @@ madeOf s =
 
 -- ---- the state rules
 
+-- what a raw temperature is held against: of the loop's fields, those that decide codes 4 and 19 (02, request 8)
+abbrev pub guardOf : Loop → Guard
+guardOf l = record { automatic = l .automatic; primed = l .primed; jump = l .settings .jump; raw = l .raw }
+
 -- a rate from 1 to 2,000,000
 abbrev pub inRates : ℤ → Bool
 inRates z = inside (pos 1) (pos fastest) z
@@ -82,12 +88,8 @@ fineOk l = inB (l .integral) && inFine (l .y) && (l .primed || eqZ (l .y) (pos 0
 abbrev pub pendingOk : Loop → Bool
 pendingOk l = l .automatic || not (l .pending)
 
--- "The last kept raw temperature joins the record, within ±1,000,000, and 0 while not primed." (02, request 8)
-abbrev pub rawOk : Loop → Bool
-rawOk l = inReach (l .raw) && (l .primed || eqZ (l .raw) (pos 0))
-
 -- the state rules of the loop: all of 01's but the one on the last number and command. "Settings within the table" asks lo < hi
 -- and out in lo..hi too
 unfoldable pub valid : Loop → Bool
 valid l =
-    inTable (l .settings) && ordered (l .settings) && placesOk l && fineOk l && pendingOk l && windowOk (l .window) && rawOk l
+    inTable (l .settings) && ordered (l .settings) && placesOk l && fineOk l && pendingOk l && windowOk (l .window) && guardOk (guardOf l)

@@ -6,7 +6,7 @@ ghost use Rattle.whole.specs.Numbers.{plus, Within};
 ghost use Rattle.settings.specs.Table.{reach, sets, inReach};
 ghost use Rattle.settings.specs.Settings.{gainsAt};
 ghost use Rattle.pid.specs.Record.{valid};
-ghost use Rattle.pid.specs.Law.{signOf, fixedOf, movingOf, withMoving, guardOf, sampleRefusal, putRefusal, targetRefusal, setRefusal, refusalOf, sampleOf, holdOf, putOf, automaticOf, targetOf, setOf, stepOf, lawOf};
+ghost use Rattle.pid.specs.Law.{signOf, fixedOf, movingOf, withMoving, sampleRefusal, putRefusal, targetRefusal, setRefusal, refusalOf, sampleOf, holdOf, putOf, automaticOf, targetOf, setOf, stepOf, lawOf};
 use crate::record::Loop;
 use crate::sample::Fixed;
 use crate::sample::Moving;
@@ -15,7 +15,6 @@ use crate::sample::sense;
 use command::Command;
 use settings::Gains;
 use settings::Settings;
-use temperature::Guard;
 use window::Window;
 
 pub struct Obeyed {
@@ -72,18 +71,6 @@ fn refuse_set(k: i32) -> u8
 }
 
 impl Loop {
-    // What a raw temperature is held against.
-    pub(crate) fn guard(self) -> Guard
-        ensures { λ r. ⌜ r ≡ guardOf self ⌝ }
-    {
-        Guard {
-            automatic: self.automatic,
-            primed: self.primed,
-            jump: self.settings.jump,
-            raw: self.raw,
-        }
-    }
-
     fn refuse_sample(self, pv: i32) -> u8
         ensures { λ r. ⌜ r ≡ sampleRefusal self pv ⌝ }
     {

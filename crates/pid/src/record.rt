@@ -1,7 +1,8 @@
 // What a loop remembers, the state rules, and the making of a loop from settings.
 ghost use mathlib.Core.Path.{_≡_};
-ghost use Rattle.pid.specs.Record.{freshOf, blankLoop, madeOf, placesOk, fineOk, pendingOk, rawOk, valid};
+ghost use Rattle.pid.specs.Record.{freshOf, blankLoop, madeOf, placesOk, fineOk, pendingOk, guardOf, valid};
 use settings::Settings;
+use temperature::Guard;
 use window::Window;
 
 pub struct Loop {
@@ -116,10 +117,16 @@ impl Loop {
         self.automatic | !self.pending
     }
 
-    fn raw_ok(self) -> bool
-        ensures { λ r. ⌜ r ≡ rawOk self ⌝ }
+    // What a raw temperature is held against.
+    pub(crate) fn guard(self) -> Guard
+        ensures { λ r. ⌜ r ≡ guardOf self ⌝ }
     {
-        (-Loop::REACH <= self.raw) & (self.raw <= Loop::REACH) & (self.primed | (self.raw == 0))
+        Guard {
+            automatic: self.automatic,
+            primed: self.primed,
+            jump: self.settings.jump,
+            raw: self.raw,
+        }
     }
 
     // Whether the record keeps the state rules.
@@ -128,12 +135,13 @@ impl Loop {
     {
         let s = self.settings;
         let w = self.window;
+        let g = self.guard();
         s.in_table()
             & s.is_ordered()
             & self.places_ok()
             & self.fine_ok()
             & self.pending_ok()
             & w.is_valid()
-            & self.raw_ok()
+            & g.is_valid()
     }
 }

@@ -1,15 +1,20 @@
 -- 01, "The law", code 4, and 02, request 8, code 19: which raw temperatures are refused, one by one and in a list.
 use Prim.Native.Nat.{ℕ, zero, suc}
-use mathlib.Core.Bool.{Bool, true, cond, _&&_}
+use mathlib.Core.Bool.{Bool, true, cond, _&&_, _||_}
 use mathlib.Core.List.{List, [], _∷_}
 use lib.Dec.{eqb}
 use lib.IntN.{ℤ, pos, _-ℤ_}
 use lib.ListN.{getD}
 use lib.Signed.{ltZ}
-use Rattle.whole.specs.Numbers.{size}
+use Rattle.whole.specs.Numbers.{size, eqZ}
 use Rattle.settings.specs.Table.{inReach}
 use Rattle.temperature.specs.declared.Guard.{Guard}
 use Rattle.temperature.specs.declared.Bad.{Bad}
+
+-- ---- the state rule: "The last kept raw temperature joins the record, within ±1,000,000, and 0 while not primed."
+
+abbrev pub guardOk : Guard → Bool
+guardOk g = inReach (g .raw) && (g .primed || eqZ (g .raw) (pos 0))
 
 -- ---- one temperature
 

@@ -20,8 +20,7 @@ use Rattle.settings.specs.SettingsC.{settingsC}
 use Rattle.temperature.specs.Temperature.{codeOf, firstBad, firstCode}
 use Rattle.temperature.proofs.Earliest.{front-good}
 use Rattle.temperature.proofs.promises.Jump.{codeAt, earliest, none-bad, all-good}
-use Rattle.pid.specs.Record.{freshOf, inB, valid}
-use Rattle.pid.specs.Law.{guardOf}
+use Rattle.pid.specs.Record.{freshOf, inB, guardOf, valid}
 use Rattle.pid.specs.Play.{hasPlace, afterSamples}
 use Rattle.command.specs.Sequence.{after, each}
 use Rattle.window.specs.Window.{freshWindow, windowOk}

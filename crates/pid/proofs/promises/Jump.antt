@@ -6,7 +6,7 @@ use mathlib.Core.Bool.{Bool, true, false, _&&_}
 use mathlib.Core.List.{List, [], _∷_}
 use native.Mathlib.Omega.{arith}
 use lib.Dec.{eqb}
-use lib.IntN.{ℤ, pos, negsuc, _-ℤ_}
+use lib.IntN.{ℤ, pos, _-ℤ_}
 use lib.Signed.{_≤ℤ_}
 use Rattle.whole.specs.Numbers.{plus, size}
 use Rattle.whole.proofs.Truth.{both, by-test, chosen}
@@ -24,9 +24,9 @@ use Rattle.command.specs.declared.Command.the-variants.{Sample, Hold, Put, Auto
 use Rattle.command.specs.Sequence.{after, each}
 use Rattle.pid.specs.declared.record.Loop.{Loop}
 use Rattle.pid.specs.Units.{rounded}
-use Rattle.pid.specs.Record.{freshOf, valid}
+use Rattle.pid.specs.Record.{freshOf, guardOf, valid}
 use Rattle.pid.specs.Sample.{lesser, greater, limited, ramped, filtered, derivative, sensedOf, clamped, backCalculated, integrated, actedOf}
-use Rattle.pid.specs.Law.{withMoving, guardOf, sampleOf, stepOf, refusalOf, lawOf}
+use Rattle.pid.specs.Law.{sampleOf, stepOf, refusalOf, lawOf}
 use Rattle.pid.specs.Plain.{plainRefusalOf}
 use Rattle.pid.specs.Run.{obeyed, samples}
 use Rattle.pid.proofs.Obeys.{sample-code}
@@ -131,19 +131,11 @@ pub raw-counts : codes (pos 2) (pos 10) (Automatic ∷ Sample (pos 480) ∷ Samp
 unfolding rounded rowsOf inTable freshWindow taken meanAt windowOk valid lesser greater limited ramped filtered derivative sensedOf clamped backCalculated integrated actedOf codeOf sampleOf stepOf refusalOf lawOf each
 raw-counts = refl
 
--- a jump of 0 or of 2,000,001 breaks the state rules, and so does a raw temperature that is not 0 in a loop that is not primed
-abbrev raw-at : Bool → ℤ → Loop
-raw-at primed raw =
-    let l = freshOf (settingsWith (pos 1) (pos 10)) in
-    withMoving l (l .window) raw (record { w = l .w; u = l .u; integral = l .integral; y = l .y; primed = primed; pending = false })
-
+-- a jump of 0 or of 2,000,001 breaks the state rules
 pub jump-range :
     (valid (freshOf (settingsWith (pos 1) (pos 0))) ≡ false)
     × (valid (freshOf (settingsWith (pos 1) (pos 1))) ≡ true)
     × (valid (freshOf (settingsWith (pos 1) (pos 2000000))) ≡ true)
     × (valid (freshOf (settingsWith (pos 1) (pos 2000001))) ≡ false)
-    × (valid (raw-at false (pos 1)) ≡ false)
-    × (valid (raw-at true (negsuc 999999)) ≡ true)
-    × (valid (raw-at true (negsuc 1000000)) ≡ false)
 unfolding rowsOf inTable freshWindow windowOk valid
-jump-range = (refl, refl, refl, refl, refl, refl, refl)
+jump-range = (refl, refl, refl, refl)

@@ -11,10 +11,9 @@ use Rattle.whole.proofs.Truth.{by-test}
 use Rattle.temperature.specs.Temperature.{firstCode}
 use Rattle.command.specs.declared.Command.the-variants.{Sample}
 use Rattle.pid.specs.declared.record.Loop.{Loop}
-use Rattle.pid.specs.Record.{valid}
+use Rattle.pid.specs.Record.{guardOf, valid}
 use Rattle.command.specs.Sequence.{after}
 use Rattle.pid.specs.Play.{sampled, afterSamples, playRefusal, playedOf, wroteOf}
-use Rattle.pid.specs.Law.{guardOf}
 use Rattle.pid.specs.Run.{obeyed}
 use Rattle.pid.proofs.Kept.{step-valid}
 use Rattle.pid.proofs.Plays.{after-commands, good-first, playable}

@@ -1,8 +1,13 @@
+use mathlib.Core.Path.{ap, _∙_}
+use Rattle.temperature.specs.Temperature.{guardOk}
 use Rattle.pid.specs.Record.{valid}
 use borrow.Author.Needs.{needs}
 use Rattle.settings.proofs.Ranges.{meet}
 use Rattle.pid.proofs.record.Loop.is_valid.Statement.{statement}
 use Rattle.pid.proofs.record.Loop.is_valid.Tie as tie
+
+guard-requires : tie.Need-guard-requires
+guard-requires c κs = search needs
 
 in-table-requires : tie.Need-in-table-requires
 in-table-requires c κs = search needs
@@ -22,8 +27,8 @@ pending-ok-requires c κs = search needs
 is-valid-requires : tie.Need-is-valid-requires
 is-valid-requires c κs = search needs
 
-raw-ok-requires : tie.Need-raw-ok-requires
-raw-ok-requires c κs = search needs
+is-valid-requires-2 : tie.Need-is-valid-requires-2
+is-valid-requires-2 c κs = search needs
 
 returns : tie.Need-returns
 unfolding valid
@@ -38,17 +43,18 @@ returns c =
     (c .before .before .before .fine-ok .ensures))
     (c .before .before .pending-ok .ensures))
     (c .before .is-valid .ensures))
-    (c .raw-ok .ensures)
+    (c .is-valid2 .ensures ∙ ap guardOk (c .before .before .before .before .before .before .before .guard .ensures))
 
 pub is-valid-spec : {M : Type 1} → statement M
 is-valid-spec =
     tie.close
     (tie.spec
+    guard-requires
     in-table-requires
     is-ordered-requires
     places-ok-requires
     fine-ok-requires
     pending-ok-requires
     is-valid-requires
-    raw-ok-requires
+    is-valid-requires-2
     returns)

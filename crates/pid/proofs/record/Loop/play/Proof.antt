@@ -14,8 +14,7 @@ use Rattle.temperature.specs.Temperature.{badOf, firstBad, firstCode}
 use Rattle.window.specs.Means.{frontFilled, meansInto}
 use Rattle.window.proofs.Taken.{into-bad, into-front, front-take, front-long, front-twice}
 use Rattle.pid.specs.declared.record.Loop.{Loop}
-use Rattle.pid.specs.Record.{valid}
-use Rattle.pid.specs.Law.{guardOf}
+use Rattle.pid.specs.Record.{guardOf, valid}
 use Rattle.pid.specs.Play.{outputsOf, readsOf, refusedOf, placed}
 use Rattle.pid.proofs.Plays.{code-10, code-12, code-bad, bad-placed, plays-refused, plays-done, reads-length, outputs-length}
 use Rattle.pid.proofs.record.Loop.play.Statement.{statement}

@@ -1,7 +1,8 @@
 use Rattle.temperature.proofs.Ranged.{taken-reach}
 use mir.Syntax.{w32}
 use Rattle.whole.proofs.Bits.{back}
-use Rattle.pid.specs.Law.{guardOf, refusalOf, stepOf}
+use Rattle.pid.specs.Record.{guardOf}
+use Rattle.pid.specs.Law.{refusalOf, stepOf}
 use borrow.Author.Needs.{needs}
 use Rattle.pid.proofs.record.Loop.step.Statement.{statement}
 use Rattle.pid.proofs.record.Loop.step.Tie as tie
