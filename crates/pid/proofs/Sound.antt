@@ -15,9 +15,9 @@ use Rattle.whole.proofs.Num.{nums, stays}
 use Rattle.pid.specs.declared.record.Loop.{Loop}
 use Rattle.settings.specs.Table.{sets, inReach}
 use Rattle.settings.specs.Settings.{gainsAt, inTable, ordered}
-use Rattle.temperature.specs.Temperature.{guardOk}
+use Rattle.temperature.specs.Temperature.{rawOk}
 use Rattle.window.specs.Window.{windowOk}
-use Rattle.pid.specs.Record.{inRates, inB, inFine, placesOk, fineOk, pendingOk, guardOf, valid}
+use Rattle.pid.specs.Record.{inRates, inB, inFine, placesOk, fineOk, pendingOk, valid}
 use Rattle.pid.specs.Law.{fixedOf, movingOf, readAt}
 use Rattle.pid.specs.Bounds.{FixedOk, MovingOk}
 use Rattle.window.proofs.Rules.{mean-in}
@@ -36,7 +36,7 @@ pub record Holds (l : Loop) : Type 0 where
   pub zero : (l .primed || eqZ (l .y) (pos 0)) ≡ true
   pub pending : pendingOk l ≡ true
   pub window : windowOk (l .window) ≡ true
-  pub raw : guardOk (guardOf l) ≡ true
+  pub raw : rawOk (l .primed) (l .raw) ≡ true
 
 pub holds-of : (l : Loop) → valid l ≡ true → Holds l
 unfolding valid
@@ -51,7 +51,7 @@ holds-of l e =
     let I = inB (l .integral) in
     let Y = inFine (l .y) in
     let Z = l .primed || eqZ (l .y) (pos 0) in
-    let x = both (T && O && placesOk l && fineOk l && pendingOk l && windowOk (l .window)) (guardOk (guardOf l)) e in
+    let x = both (T && O && placesOk l && fineOk l && pendingOk l && windowOk (l .window)) (rawOk (l .primed) (l .raw)) e in
     let v = both (T && O && placesOk l && fineOk l && pendingOk l) (windowOk (l .window)) (x .0) in
     let p = both (T && O && placesOk l && fineOk l) (pendingOk l) (v .0) in
     let f = both (T && O && placesOk l) (fineOk l) (p .0) in

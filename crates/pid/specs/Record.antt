@@ -10,7 +10,7 @@ use Rattle.pid.specs.Units.{B, fineReach}
 use Rattle.settings.specs.Table.{inReach, fastest, sets}
 use Rattle.settings.specs.Settings.{inTable, ordered, settingsRefusal, blankSettings}
 use Rattle.temperature.specs.declared.Guard.{Guard}
-use Rattle.temperature.specs.Temperature.{guardOk}
+use Rattle.temperature.specs.Temperature.{rawOk}
 use Rattle.window.specs.Window.{freshWindow, windowOk}
 
 -- "A fresh loop: manual, not pending, set 0, w = target = sp, rate and u as set, I = 0, not primed, y = 0"
@@ -92,4 +92,4 @@ pendingOk l = l .automatic || not (l .pending)
 -- and out in lo..hi too
 unfoldable pub valid : Loop → Bool
 valid l =
-    inTable (l .settings) && ordered (l .settings) && placesOk l && fineOk l && pendingOk l && windowOk (l .window) && guardOk (guardOf l)
+    inTable (l .settings) && ordered (l .settings) && placesOk l && fineOk l && pendingOk l && windowOk (l .window) && rawOk (l .primed) (l .raw)

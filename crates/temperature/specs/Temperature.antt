@@ -13,8 +13,8 @@ use Rattle.temperature.specs.declared.Bad.{Bad}
 
 -- ---- the state rule: "The last kept raw temperature joins the record, within ±1,000,000, and 0 while not primed."
 
-abbrev pub guardOk : Guard → Bool
-guardOk g = inReach (g .raw) && (g .primed || eqZ (g .raw) (pos 0))
+abbrev pub rawOk : Bool → ℤ → Bool
+rawOk primed raw = inReach raw && (primed || eqZ raw (pos 0))
 
 -- ---- one temperature
 

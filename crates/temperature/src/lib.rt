@@ -1,6 +1,6 @@
 // A raw temperature: whether it is taken, and which of a list is the first that is not.
 ghost use mathlib.Core.Path.{_≡_};
-ghost use Rattle.temperature.specs.Temperature.{guardOk, further, jumps, codeOf, past, badOf, rawAfter};
+ghost use Rattle.temperature.specs.Temperature.{rawOk, further, jumps, codeOf, past, badOf, rawAfter};
 use settings::Settings;
 
 // What a sample is held against: the loop's mode, whether there was a sample before, how far from that it may be, and "the last
@@ -30,7 +30,7 @@ fn further(jump: i32, raw: i32, pv: i32) -> bool
 impl Guard {
     // Whether the last kept raw temperature keeps its state rule.
     pub fn is_valid(self) -> bool
-        ensures { λ r. ⌜ r ≡ guardOk self ⌝ }
+        ensures { λ r. ⌜ r ≡ rawOk (self .primed) (self .raw) ⌝ }
     {
         (-Settings::REACH <= self.raw)
             & (self.raw <= Settings::REACH)

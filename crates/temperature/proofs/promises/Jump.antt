@@ -2,7 +2,7 @@
 -- sample of a list.
 use Prim.Native.Nat.{ℕ, zero, suc, _<_}
 use mathlib.Core.Path.{_≡_, refl, sym, ap, _∙_}
-use mathlib.Core.Bool.{Bool, true, false}
+use mathlib.Core.Bool.{true, false}
 use mathlib.Core.List.{List, [], _∷_}
 use native.Mathlib.Omega.{arith}
 use borrow.Author.Tests.{eqb-true, eqb-false}
@@ -12,15 +12,15 @@ use lib.ListN.{length, getD}
 use Rattle.whole.proofs.Truth.{and, by-test}
 use Rattle.temperature.specs.declared.Guard.{Guard}
 use Rattle.temperature.specs.declared.Bad.{Bad}
-use Rattle.temperature.specs.Temperature.{guardOk, codeOf, past, firstBad, firstCode, badOf, heldAgainst}
+use Rattle.temperature.specs.Temperature.{rawOk, codeOf, past, firstBad, firstCode, badOf, heldAgainst}
 use Rattle.temperature.proofs.Earliest.{bad-on, bad-first, code-none}
 use Rattle.temperature.proofs.Ranged.{taken-reach}
 
 -- ---- the state rule
 
 -- "within ±1,000,000, and 0 while not primed": a sample that is taken keeps it, whatever was before
-pub past-keeps : (g : Guard) (pv : ℤ) → codeOf g pv ≡ 0 → guardOk (past g pv) ≡ true
-past-keeps g pv e = and (taken-reach g pv e) refl
+pub taken-keeps : (g : Guard) (pv : ℤ) → codeOf g pv ≡ 0 → rawOk true pv ≡ true
+taken-keeps g pv e = and (taken-reach g pv e) refl
 
 -- ---- "the earliest bad sample is reported with its code and place"
 
@@ -88,14 +88,11 @@ abbrev bad : ℕ → ℕ → Bad
 bad code place = record { code = code; place = place }
 
 -- a loop that is not primed with a temperature breaks the rule, and one with a temperature out of range
-abbrev rests : Bool → ℤ → Guard
-rests primed raw = record { automatic = true; primed = primed; jump = pos 10; raw = raw }
-
 pub broken :
-    (guardOk (rests false (pos 0)) ≡ true)
-    × (guardOk (rests false (pos 1)) ≡ false)
-    × (guardOk (rests true (negsuc 999999)) ≡ true)
-    × (guardOk (rests true (negsuc 1000000)) ≡ false)
+    (rawOk false (pos 0) ≡ true)
+    × (rawOk false (pos 1) ≡ false)
+    × (rawOk true (negsuc 999999) ≡ true)
+    × (rawOk true (negsuc 1000000) ≡ false)
 broken = (refl, refl, refl, refl)
 
 -- "Further than": exactly jump away is taken, on either side; 4 comes before 19

@@ -1,5 +1,6 @@
 use mathlib.Core.Path.{ap, _∙_}
-use Rattle.temperature.specs.Temperature.{guardOk}
+use Rattle.temperature.specs.declared.Guard.{Guard}
+use Rattle.temperature.specs.Temperature.{rawOk}
 use Rattle.pid.specs.Record.{valid}
 use borrow.Author.Needs.{needs}
 use Rattle.settings.proofs.Ranges.{meet}
@@ -43,7 +44,7 @@ returns c =
     (c .before .before .before .fine-ok .ensures))
     (c .before .before .pending-ok .ensures))
     (c .before .is-valid .ensures))
-    (c .is-valid2 .ensures ∙ ap guardOk (c .before .before .before .before .before .before .before .guard .ensures))
+    (c .is-valid2 .ensures ∙ ap (λ (g : Guard). rawOk (g .primed) (g .raw)) (c .before .before .before .before .before .before .before .guard .ensures))
 
 pub is-valid-spec : {M : Type 1} → statement M
 is-valid-spec =
