@@ -1,6 +1,7 @@
 //! A replay as an engineer would write it in ordinary Rust: the record by `&mut`, one pass for the samples that are refused, one
 //! for the law; the mean by a running sum and a division, and the window written once, at the end. Numbers are 64 bits wide within
-//! the record, which is the faster of the two ways, but for raw temperatures. It is what the proved replay is measured against, and stays as it is.
+//! the record, which is the faster of the two ways, but for raw temperatures. It is what the proved replay is measured against, and
+//! stays as it is.
 
 pub const F: i64 = 65_536;
 pub const B: i64 = 16_842_752_000_000;

@@ -49,6 +49,10 @@ blankLoop = record {
   raw = pos 0;
 }
 
+-- of what it remembers, what a raw temperature is held against (02, request 8)
+abbrev pub guardOf : Loop → Guard
+guardOf l = record { automatic = l .automatic; primed = l .primed; jump = l .settings .jump; raw = l .raw }
+
 -- "Making a loop from settings tests 11, then 16. Where making a loop [..] is refused, what stands beside the code is the blank"
 unfoldable pub madeOf : Settings → Made
 madeOf s =
@@ -57,10 +61,6 @@ madeOf s =
     (record { code = settingsRefusal s; state = blankLoop })
 
 -- ---- the state rules
-
--- what a raw temperature is held against: of the loop's fields, those that decide codes 4 and 19 (02, request 8)
-abbrev pub guardOf : Loop → Guard
-guardOf l = record { automatic = l .automatic; primed = l .primed; jump = l .settings .jump; raw = l .raw }
 
 -- a rate from 1 to 2,000,000
 abbrev pub inRates : ℤ → Bool
