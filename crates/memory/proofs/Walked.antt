@@ -62,7 +62,7 @@ module _ (L : Law) (d : Sent L) (other : Answer (L .Output)) where
 
 module _ (L : Law) (s : ℕ) (d : Sent L) (other : Answer (L .Output)) where
   -- s, the size of the memory, says nothing here
-  not-this : (k : Kept L) (rest : Answer (L .Output)) → (d .number ≡ k .sent .number → ⊥) →
+  pub not-this : (k : Kept L) (rest : Answer (L .Output)) → (d .number ≡ k .sent .number → ⊥) →
       cond (eqb (d .number) (k .sent .number) && L .same (k .sent .command) (d .command)) (k .answer) rest ≡ rest
   not-this k rest f = rw (ne-eqb (d .number) (k .sent .number) f)
 
@@ -193,19 +193,20 @@ module _ (L : Law) (n : ℕ) (w : Walk L) (d : Sent L) where
 -- ---- what is remembered stays so
 
 module _ (L : Law) where
-  runs-keep : (n m : ℕ) (k : Kept L) (ks : List (Kept L)) → k .sent .number ≡ suc m →
-      k .answer ≡ record { code = 0; output = k .answer .output; number = suc m } → Runs L n m ks → Runs L n (suc m) (take n (k ∷ ks))
-  runs-keep zero m k ks p q r = refl
-  runs-keep (suc n) m k ks p q r = (p, q, runs-take L n m ks r)
+  -- one more is kept: before the oldest leaves they are one more than n
+  pub runs-more : (n : ℕ) (w : Walk L) (d : Sent L) → Runs L n (w .count) (w .recent) → keeps L n w d ≡ true →
+      Runs L (suc n) (suc (w .count)) (record { sent = d; answer = keptAnswer L n w d } ∷ w .recent)
+  runs-more n w d r e = (
+    number-next L n w d e .0 ∙ add-one (w .count),
+    ap (λ (c : ℕ). record { code = 0; output = L .output (L .step (w .state) (d .command)); number = c }) (add-one (w .count)),
+    r,
+  )
 
   pub still-runs : (n : ℕ) (w : Walk L) (d : Sent L) → Runs L n (w .count) (w .recent) → Runs L n (onward L n w d .count) (onward L n w d .recent)
   still-runs n w d r =
       chosen (λ (x : Walk L). Runs L n (x .count) (x .recent)) (keeps L n w d)
       (λ e. subst (λ (c : ℕ). Runs L n c (take n (record { sent = d; answer = keptAnswer L n w d } ∷ w .recent))) (sym (add-one (w .count)))
-      (runs-keep n (w .count) (record { sent = d; answer = keptAnswer L n w d }) (w .recent)
-      (number-next L n w d e .0 ∙ add-one (w .count))
-      (ap (λ (c : ℕ). record { code = 0; output = L .output (L .step (w .state) (d .command)); number = c }) (add-one (w .count)))
-      r))
+      (runs-take L n (suc (w .count)) _ (runs-more n w d r e)))
       (λ e. r)
 
 -- ---- the walk is the law's over the kept commands
@@ -231,6 +232,13 @@ module _ (L : Law) (n : ℕ) where
   walked-count w [] = omega arith
   walked-count w (d ∷ ds) = walked-count (onward L n w d) ds ∙ count-past L n w d (kept L n (onward L n w d) ds) (keeps L n w d)
 
+  pub kept-most : (w : Walk L) (ds : List (Sent L)) → length (kept L n w ds) ≤ length ds
+  unfolding kept
+  kept-most w [] = omega arith
+  kept-most w (d ∷ ds) =
+      let h = kept-most (onward L n w d) ds in
+      chosen (λ (cs : List (L .Command)). length cs ≤ length (d ∷ ds)) (keeps L n w d) (λ _. omega arith) (λ _. omega arith)
+
 -- ---- every list of deliveries
 
 -- What an engine shows: its records, what one delivery leaves and is answered, the record that stands where a walk stands,
@@ -246,7 +254,7 @@ pub record Engine (L : Law) (n : ℕ) : Type 1 where
   pub hands : (w : Walk L) (d : Sent L) → Rules w → Runs L n (w .count) (w .recent) → handedBack (at w) d ≡ at (onward L n w d)
 
 module _ (L : Law) (n : ℕ) (E : Engine L n) where
-  still-ruled : (w : Walk L) (d : Sent L) → E .Rules w → E .Rules (onward L n w d)
+  pub still-ruled : (w : Walk L) (d : Sent L) → E .Rules w → E .Rules (onward L n w d)
   still-ruled w d g = chosen (E .Rules) (keeps L n w d) (λ e. E .keep-rules w d g e) (λ e. g)
 
   pub ends : (w : Walk L) (ds : List (Sent L)) → E .Rules w → Runs L n (w .count) (w .recent) →
@@ -257,12 +265,15 @@ module _ (L : Law) (n : ℕ) (E : Engine L n) where
       ap (λ (x : E .Record). after (E .handedBack) x ds) (E .hands w d g r)
       ∙ ends (onward L n w d) ds (still-ruled w d g) (still-runs L n w d r)
 
+  pub one-answer : (w : Walk L) (d : Sent L) → E .Rules w → Runs L n (w .count) (w .recent) → E .answered (E .at w) d ≡ answerTo L n w d
+  one-answer w d g r = E .answers w d g r ∙ served-so L n w d r
+
   pub all-answers : (w : Walk L) (ds : List (Sent L)) → E .Rules w → Runs L n (w .count) (w .recent) →
       each (E .handedBack) (E .answered) (E .at w) ds ≡ each (onward L n) (answerTo L n) w ds
   unfolding each
   all-answers w [] g r = refl
   all-answers w (d ∷ ds) g r =
       ap₂ (λ (x : Answer (L .Output)) (xs : List (Answer (L .Output))). x ∷ xs)
-      (E .answers w d g r ∙ served-so L n w d r)
+      (one-answer w d g r)
       (ap (λ (x : E .Record). each (E .handedBack) (E .answered) x ds) (E .hands w d g r)
       ∙ all-answers (onward L n w d) ds (still-ruled w d g) (still-runs L n w d r))

@@ -42,7 +42,7 @@ pub record Walk (L : Law) : Type 0 where
   pub count : ℕ
   pub recent : List (Kept L)
 
--- n is how many are remembered: 01 remembers the latest alone
+-- n is how many are remembered: 01 remembers the latest alone, 02's request 6 the last 32
 module _ (L : Law) (n : ℕ) where
   abbrev pub start : L .State → Walk L
   start s = record { state = s; count = 0; recent = [] }
@@ -55,15 +55,16 @@ module _ (L : Law) (n : ℕ) where
   abbrev pub keptAnswer : Walk L → Delivery (L .Command) → Answer (L .Output)
   keptAnswer w d = record { code = 0; output = L .output (L .step (w .state) (d .command)); number = w .count + 1 }
 
-  -- "an exact repeat of the latest kept one gets that same answer", or of any of those remembered, and every other delivery `other`
+  -- "an exact repeat of the latest kept one gets that same answer", amended: "A repeat of any of them, same number and values, gets
+  -- its first answer again". Every other delivery gets `other`
   abbrev pub repeatAnswer : List (Kept L) → Delivery (L .Command) → Answer (L .Output) → Answer (L .Output)
   repeatAnswer [] d other = other
   repeatAnswer (k ∷ ks) d other =
       cond (eqb (d .number) (k .sent .number) && L .same (k .sent .command) (d .command)) (k .answer) (repeatAnswer ks d other)
 
   -- "its named refusal", the count being the last number:
-  --   1: "number below last, or number 0", below the last n where n are remembered
-  --   2: "number = last, at least 1, other command or value", one of the last n where n are remembered
+  --   1: number 0, or "older" than the last n
+  --   2: "A number in that window with other values"
   --   3: "number above last + 1"
   --   else the law's own
   abbrev pub namedRefusal : Walk L → Delivery (L .Command) → ℕ

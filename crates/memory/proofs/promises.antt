@@ -1,0 +1,2 @@
+-- What the crate promises beside its contracts.
+pub mod Rules
