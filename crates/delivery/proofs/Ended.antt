@@ -1,14 +1,16 @@
--- A list of deliveries, from any record that keeps the state rules: the law's end, the count, the last command, the answers.
-use Prim.Native.Nat.{ℕ, zero, suc, _+_}
-use mathlib.Core.Path.{_≡_, refl, sym, ap, _∙_}
-use mathlib.Core.Bool.{Bool, true, false, cond}
+-- A list of deliveries, from any record that keeps the state rules: the law's end, the count, what is remembered, the answers.
+use Prim.Native.Nat.{ℕ, zero, suc, _+_, _-_}
+use mathlib.Core.Path.{_≡_, refl, sym, ap, ap₂, subst, _∙_}
+use mathlib.Core.Bool.{Bool, true, false}
 use mathlib.Core.List.{List, [], _∷_}
 use native.Mathlib.Omega.{arith}
-use borrow.Author.Tests.{eqb-true}
-use lib.Dec.{eqb}
-use lib.IntN.{_+ℤ_}
+use borrow.Author.Tests.{lt-ltb}
+use lib.Dec.{eqb, ltb}
+use lib.IntN.{ℤ, pos, _+ℤ_}
 use lib.ListN.{length}
-use Rattle.whole.proofs.Truth.{never, and, both}
+use lib.Seq.{take-all}
+use Rattle.whole.proofs.Truth.{never, and, both, by-test}
+use Rattle.whole.proofs.Parts.{eqZ-yes}
 use Rattle.command.specs.declared.Command.{Command}
 use Rattle.pid.specs.declared.record.Loop.{Loop}
 use Rattle.pid.specs.Record.{valid}
@@ -18,76 +20,126 @@ use Rattle.pid.specs.Run.{accepted, unbroken, shares}
 use Rattle.pid.proofs.Shares.{run-shares}
 use Rattle.memory.specs.declared.Last.{Last}
 use Rattle.memory.specs.declared.Last.the-variants.{Nothing, Kept as Last·Kept}
-use Rattle.memory.specs.Memory.{lastOk, window, lastOf}
-use Rattle.memory.specs.Walk.{Walk, keeps, keeping, onward, answerTo, kept}
+use Rattle.memory.specs.declared.Entry.{Entry}
+use Rattle.memory.specs.Memory.{window, entryOf, noEntry, holdsOk, entriesOk}
+use Rattle.memory.specs.Walk.{Kept, Walk, keeps, keptAnswer, keeping, onward, answerTo, kept}
+use Rattle.memory.proofs.Rules.{places-long, places-ok}
+use Rattle.memory.proofs.Filled.{oneByOne, at-once}
 use Rattle.memory.proofs.Walked.{Sent, Runs, walked-state, walked-count, ends, all-answers}
 use Rattle.delivery.specs.declared.numbered.Numbered.{Numbered}
 use Rattle.delivery.specs.Numbered.{recordOf, memoryOk, validOf}
-use Rattle.delivery.specs.Demand3.{plain, answered, handedBack, recalled, standing, keptOn}
-use Rattle.delivery.proofs.Stands.{lastIn, standsAt, Newest, Good, numbered}
+use Rattle.delivery.specs.Demand3.{plain, answered, handedBack, keptEntries, afterKept, recalledBy, recalled, standing, keptOn}
+use Rattle.delivery.proofs.Stands.{places, standsAt, places-length, places-more, AllIn, Good, numbered}
 use Rattle.delivery.proofs.Served.{delivered-valid}
 
--- ---- the last command
+-- ---- what is remembered
 
-module _ (w : Walk plain) (d : Sent plain) (rest : List Command) where
-  last-past : (b : Bool) →
-      lastOf (lastIn (cond b (keeping plain window w d) w .recent)) rest ≡ lastOf (lastIn (w .recent)) (cond b (d .command ∷ rest) rest)
-  unfolding window lastIn lastOf
-  last-past true = refl
-  last-past false = refl
-
-walked-last : (w : Walk plain) (ds : List (Sent plain)) →
-    lastIn (after (onward plain window) w ds .recent) ≡ lastOf (lastIn (w .recent)) (kept plain window w ds)
-unfolding after kept lastOf
-walked-last w [] = refl
-walked-last w (d ∷ ds) =
-    walked-last (onward plain window w d) ds ∙ last-past w d (kept plain window (onward plain window w d) ds) (keeps plain window w d)
+-- the places one by one
+walked-places : (w : Walk plain) (ds : List (Sent plain)) →
+    places window (after (onward plain window) w ds .recent) ≡ oneByOne window (places window (w .recent)) (keptEntries (w .state) (kept plain window w ds))
+unfolding after each kept
+walked-places w [] = refl
+walked-places w (d ∷ ds) =
+    walked-places (onward plain window w d) ds
+    ∙ by-test (keeps plain window w d)
+    (λ e. rw e (ap (λ (es : List Entry). oneByOne window es (keptEntries (stepOf (w .state) (d .command)) (kept plain window (keeping plain window w d) ds)))
+    (sym (places-more window (record { sent = d; answer = keptAnswer plain window w d }) (w .recent)))))
+    (λ e. rw e)
 
 -- what is left after a list, said of the kept commands
 pub end-after : (w : Walk plain) (ds : List (Sent plain)) → Good w → Runs plain window (w .count) (w .recent) →
-    after handedBack (standsAt w) ds
-    ≡ recordOf (after stepOf (w .state) (kept plain window w ds)) (w .count + length (kept plain window w ds)) (lastOf (lastIn (w .recent)) (kept plain window w ds))
+    after handedBack (standsAt w) ds ≡ afterKept (standsAt w) (kept plain window w ds)
 end-after w ds g r =
+    let old = places window (w .recent) in
+    let es = keptEntries (w .state) (kept plain window w ds) in
     ends plain window numbered w ds g r
-    ∙ record-is (walked-state plain window w ds) (walked-count plain window w ds) (walked-last w ds)
+    ∙ record-is (walked-state plain window w ds) (walked-count plain window w ds)
+    (walked-places w ds ∙ at-once window old es (take-all window old (rw (places-length window (w .recent)) (omega arith))))
   where
-    record-is : {l l′ : Loop} {n n′ : ℕ} {m m′ : Last} → l ≡ l′ → n ≡ n′ → m ≡ m′ → recordOf l n m ≡ recordOf l′ n′ m′
+    record-is : {l l′ : Loop} {n n′ : ℕ} {es es′ : List Entry} → l ≡ l′ → n ≡ n′ → es ≡ es′ → recordOf l n es ≡ recordOf l′ n′ es′
     record-is p q r = rw (p, q, r)
 
 -- ---- a record that keeps the state rules, also one never reached, stands where a walk stands
 
-recalled-runs : (l : Loop) (n : ℕ) (m last : Last) → lastOk n last ≡ true → Runs plain window n (recalled (recordOf l n m) last)
-unfolding window recalled
-recalled-runs l zero m Nothing e = refl
-recalled-runs l (suc n) m Nothing e = absurd (omega (arith, eqb-true (suc n) 0 e))
-recalled-runs l zero m (Last·Kept c) e = never e
-recalled-runs l (suc n) m (Last·Kept c) e = (refl, refl, refl)
+module _ (lo hi : ℤ) where
+  -- past the last number every place is blank
+  blank-at : (l : Last) (output : ℤ) (es : List Entry) → holdsOk false lo hi l output ≡ true → places (length es) [] ≡ es →
+      noEntry ∷ places (length es) [] ≡ record { command = l; output = output } ∷ es
+  blank-at Nothing output es h e =
+      ap₂ (λ (x : ℤ) (xs : List Entry). record { command = Nothing; output = x } ∷ xs) (sym (eqZ-yes output (pos 0) h)) e
+  blank-at (Last·Kept c) output es h e = never h
 
-recalled-newest : (s : Numbered) (last : Last) → Newest (s .state) (recalled s last)
-unfolding recalled
-recalled-newest s Nothing = refl
-recalled-newest s (Last·Kept c) = refl
+  all-blank : (es : List Entry) → entriesOk 0 lo hi es ≡ true → places (length es) [] ≡ es
+  unfolding places
+  all-blank [] h = refl
+  all-blank (e ∷ es) h =
+      let b = both (holdsOk false lo hi (e .command) (e .output)) (entriesOk 0 lo hi es) h in
+      blank-at (e .command) (e .output) es (b .0) (all-blank es (b .1))
 
-recalled-last : (s : Numbered) (last : Last) → lastIn (recalled s last) ≡ last
-unfolding lastIn recalled
-recalled-last s Nothing = refl
-recalled-last s (Last·Kept c) = refl
+  -- what the last kept ones of a memory are
+  abbrev Recalls : ℕ → List Entry → List (Kept plain) → Type 0
+  Recalls m es ks = (places (length es) ks ≡ es) × Runs plain (length es) m ks × AllIn lo hi ks
+
+  zero-recalls : (l : Last) (output : ℤ) (es : List Entry) (older : List (Kept plain)) → holdsOk false lo hi l output ≡ true →
+      entriesOk 0 lo hi es ≡ true → Recalls 0 (record { command = l; output = output } ∷ es) (recalledBy l output 0 older)
+  unfolding places
+  zero-recalls Nothing output es older h f = (blank-at Nothing output es h (all-blank es f), refl, refl)
+  zero-recalls (Last·Kept c) output es older h f = never h
+
+  suc-recalls : (m : ℕ) (l : Last) (output : ℤ) (es : List Entry) (older : List (Kept plain)) → holdsOk true lo hi l output ≡ true →
+      Recalls m es older → Recalls (suc m) (record { command = l; output = output } ∷ es) (recalledBy l output (suc m) older)
+  unfolding places
+  suc-recalls m Nothing output es older h r = never h
+  suc-recalls m (Last·Kept c) output es older h r = (ap (λ (xs : List Entry). entryOf c output ∷ xs) (r .0), (refl, refl, r .1), (h, r .2))
+
+  recalls : (m : ℕ) (es : List Entry) → entriesOk m lo hi es ≡ true → Recalls m es (recalled m es)
+  unfolding places recalled
+  recalls zero [] h = (refl, refl, refl)
+  recalls (suc m) [] h = (refl, refl, refl)
+  recalls zero (e ∷ es) h =
+      let b = both (holdsOk false lo hi (e .command) (e .output)) (entriesOk 0 lo hi es) h in
+      zero-recalls (e .command) (e .output) es (recalled 0 es) (b .0) (b .1)
+  recalls (suc m) (e ∷ es) h =
+      let b = both (holdsOk (ltb 0 (suc m)) lo hi (e .command) (e .output)) (entriesOk (suc m - 1) lo hi es) h in
+      let d : suc m - 1 ≡ m = omega arith in
+      let u : holdsOk true lo hi (e .command) (e .output) ≡ true =
+      subst (λ (t : Bool). holdsOk t lo hi (e .command) (e .output) ≡ true) (lt-ltb 0 (suc m) (omega arith)) (b .0) in
+      suc-recalls m (e .command) (e .output) es (recalled (suc m - 1) es) u
+      (subst (λ (k : ℕ). Recalls m es (recalled k es)) (sym d) (recalls m es (subst (λ (k : ℕ). entriesOk k lo hi es ≡ true) d (b .1))))
 
 module _ (s : Numbered) (v : validOf s ≡ true) where
-  standing-good : Good (standing s)
-  standing-good = record { rules = both (memoryOk s) (valid (s .state)) v .1; newest = recalled-newest s (s .memory .last) }
+  abbrev lo : ℤ
+  lo = s .state .settings .lo
 
-  standing-runs : Runs plain window (s .memory .number) (recalled s (s .memory .last))
-  standing-runs =
-      recalled-runs (s .state) (s .memory .number) (s .memory .last) (s .memory .last) (both (memoryOk s) (valid (s .state)) v .0)
+  abbrev hi : ℤ
+  hi = s .state .settings .hi
 
-  stands : standsAt (standing s) ≡ s
-  stands = ap (recordOf (s .state) (s .memory .number)) (recalled-last s (s .memory .last))
+  abbrev ks : List (Kept plain)
+  ks = recalled (s .memory .number) (s .memory .entries)
 
-  pub end-from : (ds : List (Sent plain)) →
-      after handedBack s ds
-      ≡ recordOf (after stepOf (s .state) (keptOn s ds)) (s .memory .number + length (keptOn s ds)) (lastOf (s .memory .last) (keptOn s ds))
-  end-from ds = rw (recalled-last s (s .memory .last)) at (end-after (standing s) ds standing-good standing-runs)
+  memory-ok : memoryOk s ≡ true
+  memory-ok = both (memoryOk s) (valid (s .state)) v .0
+
+  long : length (s .memory .entries) ≡ window
+  long = places-long lo hi (s .memory) memory-ok
+
+  facts : Recalls lo hi (s .memory .number) (s .memory .entries) ks
+  facts = recalls lo hi (s .memory .number) (s .memory .entries) (places-ok lo hi (s .memory) memory-ok)
+
+  pub standing-good : Good (standing s)
+  standing-good = record { rules = both (memoryOk s) (valid (s .state)) v .1; outputs = facts .2 }
+
+  pub standing-runs : Runs plain window (s .memory .number) ks
+  standing-runs = subst (λ (k : ℕ). Runs plain k (s .memory .number) ks) long (facts .1)
+
+  pub stands : standsAt (standing s) ≡ s
+  stands = ap (recordOf (s .state) (s .memory .number)) (ap (λ (k : ℕ). places k ks) (sym long) ∙ facts .0)
+
+  pub end-from : (ds : List (Sent plain)) → after handedBack s ds ≡ afterKept s (keptOn s ds)
+  end-from ds =
+      ap (λ (x : Numbered). after handedBack x ds) (sym stands)
+      ∙ end-after (standing s) ds standing-good standing-runs
+      ∙ ap (λ (x : Numbered). afterKept x (keptOn s ds)) stands
 
   pub answers-from : (ds : List (Sent plain)) →
       each handedBack answered s ds ≡ each (onward plain window) (answerTo plain window) (standing s) ds

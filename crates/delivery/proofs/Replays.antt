@@ -1,13 +1,12 @@
 -- Samples delivered in order, from a record that keeps the state rules: each is kept, and what they do is what the plain law's
 -- list of samples does.
-use Prim.Native.Nat.{ℕ, zero, suc, _+_, _-_, _≤_}
+use Prim.Native.Nat.{ℕ, _+_, _≤_}
 use mathlib.Core.Path.{_≡_, refl, sym, ap, ap₂, _∙_}
 use mathlib.Core.Bool.{true}
 use mathlib.Core.List.{List, [], _∷_, map}
-use native.Mathlib.Omega.{arith}
 use borrow.Author.Tests.{eq-eqb}
-use lib.IntN.{ℤ, pos}
-use lib.ListN.{length, getD, length-map}
+use lib.IntN.{ℤ}
+use lib.ListN.{length, take, drop, length-map}
 use Rattle.whole.proofs.Truth.{and, cond-yes}
 use Rattle.temperature.specs.Temperature.{firstCode}
 use Rattle.window.specs.Means.{frontFilled}
@@ -16,17 +15,18 @@ use Rattle.command.specs.declared.Command.the-variants.{Sample}
 use Rattle.pid.specs.declared.record.Loop.{Loop}
 use Rattle.pid.specs.Record.{guardOf}
 use Rattle.pid.specs.Law.{refusalOf, stepOf}
-use Rattle.command.specs.Sequence.{after, each}
+use Rattle.command.specs.Sequence.{each}
 use Rattle.pid.specs.declared.play.Played.{Played}
 use Rattle.pid.specs.Play.{afterSamples, outputsOf, playRefusal, playedOf, wroteOf}
-use Rattle.pid.proofs.Plays.{good-first, after-commands, played-refused, played-done, playable}
-use Rattle.memory.specs.Memory.{window, lastOf}
-use Rattle.memory.specs.declared.Last.{Last}
-use Rattle.memory.specs.declared.Last.the-variants.{Kept as Last·Kept}
+use Rattle.pid.proofs.Plays.{good-first, after-commands, outputs-length, played-refused, played-done, playable}
+use Rattle.memory.specs.declared.Entry.{Entry}
+use Rattle.memory.specs.declared.Memory.{Memory}
+use Rattle.memory.specs.Memory.{window, entryOf, newest, entriesOf, filledOf}
+use Rattle.memory.proofs.Filled.{entries-front}
 use Rattle.memory.specs.Walk.{Delivery, Answer, Walk, keeps, keeping, keptAnswer, onward, answerTo, kept}
 use Rattle.delivery.specs.declared.numbered.Numbered.{Numbered}
-use Rattle.delivery.specs.Numbered.{recordOf, memoryOk, validOf}
-use Rattle.delivery.specs.Demand3.{plain, standing}
+use Rattle.delivery.specs.Numbered.{memoryOk, validOf}
+use Rattle.delivery.specs.Demand3.{plain, keptEntries, afterKept, standing}
 use Rattle.delivery.specs.Replay.{numbered, recordAfter, deliveredOutputs, numbersLeft, replayRefusal, doneOf, refusedOf}
 use Rattle.delivery.proofs.Ended.{end-from, answers-from}
 use Rattle.delivery.proofs.ReplayOrder.{as-played, Replays, refuses, done}
@@ -68,41 +68,35 @@ outputs-on w (pv ∷ pvs) g =
     (ap (λ (x : Walk plain). map output (each (onward plain window) (answerTo plain window) x (numbered (w .count + 1 + 1) pvs))) (next-onward w pv (h .0))
     ∙ outputs-on (keeping plain window w d) pvs (h .1))
 
+-- the kept samples with their outputs
+entries-are : (l : Loop) (pvs : List ℤ) → keptEntries l (map Sample pvs) ≡ entriesOf pvs (outputsOf l pvs)
+unfolding each
+entries-are l [] = refl
+entries-are l (pv ∷ pvs) = ap (λ (es : List Entry). entryOf (Sample pv) (stepOf l (Sample pv) .u) ∷ es) (entries-are (stepOf l (Sample pv)) pvs)
+
 -- ---- both together
 
 module _ (s : Numbered) (pvs : List ℤ) (v : validOf s ≡ true) (g : firstCode (guardOf (s .state)) pvs ≡ 0) where
+  -- the memory is filled at once
   pub record-is :
       recordAfter s (s .memory .number + 1) pvs
-      ≡ recordOf (afterSamples (s .state) pvs) (s .memory .number + length pvs) (lastOf (s .memory .last) (map Sample pvs))
+      ≡ record { state = afterSamples (s .state) pvs; memory = filledOf (s .memory) (s .memory .number + length pvs) pvs (outputsOf (s .state) pvs) }
+  unfolding filledOf
   record-is =
       end-from s v (numbered (s .memory .number + 1) pvs)
-      ∙ ap (λ (cs : List Command). recordOf (after stepOf (s .state) cs) (s .memory .number + length cs) (lastOf (s .memory .last) cs)) (all-kept (standing s) pvs g)
-      ∙ ap₂ (λ (l : Loop) (n : ℕ). recordOf l (s .memory .number + n) (lastOf (s .memory .last) (map Sample pvs))) (after-commands (s .state) pvs) (length-map pvs Sample)
+      ∙ ap (afterKept s) (all-kept (standing s) pvs g)
+      ∙ rw (after-commands (s .state) pvs, length-map pvs Sample, entries-are (s .state) pvs)
 
   pub outputs-are : deliveredOutputs s (s .memory .number + 1) pvs ≡ outputsOf (s .state) pvs
   outputs-are = ap (map output) (answers-from s v (numbered (s .memory .number + 1) pvs)) ∙ outputs-on (standing s) pvs g
 
--- the last of some samples
-last-sample : (m : Last) (pvs : List ℤ) (n : ℕ) → length pvs ≡ n + 1 → lastOf m (map Sample pvs) ≡ Last·Kept (Sample (getD pvs n (pos 0)))
-unfolding lastOf
-last-sample m [] n e = absurd (omega (arith, e))
-last-sample m (pv ∷ []) zero e = refl
-last-sample m (pv ∷ []) (suc n) e = absurd (omega (arith, e))
-last-sample m (pv ∷ x ∷ pvs) zero e = absurd (omega (arith, e))
-last-sample m (pv ∷ x ∷ pvs) (suc n) e = last-sample (Last·Kept (Sample pv)) (x ∷ pvs) n (omega arith)
-
-pub some-record : (s : Numbered) (pvs : List ℤ) → validOf s ≡ true → firstCode (guardOf (s .state)) pvs ≡ 0 → (length pvs ≡ 0 → ⊥) →
-    recordAfter s (s .memory .number + 1) pvs
-    ≡ recordOf (afterSamples (s .state) pvs) (s .memory .number + length pvs) (Last·Kept (Sample (getD pvs (length pvs - 1) (pos 0))))
-some-record s pvs v g h =
-    record-is s pvs v g
-    ∙ ap (recordOf (afterSamples (s .state) pvs) (s .memory .number + length pvs)) (last-sample (s .memory .last) pvs (length pvs - 1) (omega arith))
-
--- "No samples: done, nothing changes."
-pub no-record : (s : Numbered) (n : ℕ) (pvs : List ℤ) → length pvs ≡ 0 → recordAfter s n pvs ≡ s
-unfolding after numbered
-no-record s n [] e = refl
-no-record s n (pv ∷ pvs) e = absurd (omega (arith, e))
+-- what stands in the output list behind the outputs is not looked at
+pub filled-front : (m : Memory) (n : ℕ) (l : Loop) (pvs out written : List ℤ) → written ≡ frontFilled (outputsOf l pvs) out →
+    filledOf m n pvs written ≡ filledOf m n pvs (outputsOf l pvs)
+unfolding filledOf
+filled-front m n l pvs out written e =
+    ap (λ (es : List Entry). record { number = n; entries = take window (newest (m .entries) es) })
+    (ap (entriesOf pvs) e ∙ entries-front pvs (outputsOf l pvs) (drop (length (outputsOf l pvs)) out) (outputs-length l pvs))
 
 -- ---- a replay from the next number on, whose samples have their places and their numbers, is the law's list of samples
 

@@ -9,6 +9,7 @@ use lib.Seq.{getD-append-add, getD-drop}
 use Rattle.window.specs.Means.{frontFilled}
 use Rattle.command.specs.Sequence.{each}
 use Rattle.pid.proofs.Turns.{each-length}
+use Rattle.memory.specs.Memory.{filledOf}
 use Rattle.memory.specs.Walk.{Answer}
 use Rattle.delivery.specs.declared.numbered.Numbered.{Numbered}
 use Rattle.delivery.specs.Demand3.{handedBack, answered}
@@ -17,7 +18,7 @@ use Rattle.delivery.proofs.Ended.{all-valid}
 use Rattle.delivery.proofs.ReplayOrder.{Accepted, code-1}
 use Rattle.delivery.proofs.Replays.{record-is}
 
-numbered-length : (n : ℕ) (pvs : List ℤ) → length (numbered n pvs) ≡ length pvs
+pub numbered-length : (n : ℕ) (pvs : List ℤ) → length (numbered n pvs) ≡ length pvs
 unfolding numbered
 numbered-length n [] = refl
 numbered-length n (pv ∷ pvs) = ap suc (numbered-length (n + 1) pvs)
@@ -44,6 +45,7 @@ module _ (s : Numbered) (first : ℕ) (pvs out : List ℤ) where
 -- sent again whole
 pub again-old : (s : Numbered) (first : ℕ) (pvs : List ℤ) (room room′ : ℕ) → Accepted s first pvs room → 1 ≤ length pvs →
     replayRefusal (recordAfter s first pvs) first pvs room′ ≡ 1
+unfolding filledOf
 again-old s first pvs room room′ a h =
     let n : recordAfter s first pvs .memory .number ≡ s .memory .number + length pvs = rw (a .next) (ap (λ (x : Numbered). x .memory .number) (record-is s pvs (a .rules) (a .good))) in
     let f = a .next in

@@ -3,4 +3,5 @@ pub mod Delivery
 pub mod Demand3
 pub mod Replay
 pub mod Jump
+pub mod Retries
 pub mod Bench

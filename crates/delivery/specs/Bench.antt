@@ -3,6 +3,7 @@ use Prim.Native.Nat.{ℕ}
 use mathlib.Core.Bool.{Bool, true, false}
 use mathlib.Core.List.{List, [], _∷_}
 use lib.IntN.{ℤ, pos}
+use lib.ListN.{replicate}
 use Rattle.command.specs.declared.Command.{Command}
 use Rattle.command.specs.declared.Command.the-variants.{Sample, Hold, Put, Automatic, Target, Set}
 use Rattle.pid.specs.declared.record.Loop.{Loop}
@@ -10,8 +11,7 @@ use Rattle.pid.specs.Units.{fine}
 use Rattle.settings.specs.SettingsC.{settingsC}
 use Rattle.window.specs.Window.{freshWindow}
 use Rattle.pid.specs.Record.{freshOf}
-use Rattle.memory.specs.declared.Last.the-variants.{Kept}
-use Rattle.memory.specs.Memory.{lastNumber}
+use Rattle.memory.specs.Memory.{lastNumber, window, entryOf}
 use Rattle.delivery.specs.declared.numbered.Numbered.{Numbered}
 use Rattle.delivery.specs.declared.numbered.Delivered.{Delivered}
 use Rattle.delivery.specs.Numbered.{recordOf, newOf, deliveredOf}
@@ -87,7 +87,7 @@ log =
     ∷ row (from (newOf (atLimit 2 (fine 900 0)))) 1 (Sample (pos 400)) (shows 0 1000 (fine 400 0) (fine 912 50) 500 false)  -- *
     ∷ row (from (newOf (freshOf settingsC))) 1 (Sample (pos 1000000)) (shows 0 100 (fine 1000000 0) (fine 0 0) 500 false)
     ∷ row onward 2 (Sample (pos 1000001)) (shows 4 100 (fine 1000000 0) (fine 0 0) 500 false)
-    ∷ row (from (recordOf (freshOf settingsC) 4294967294 (Kept Hold))) lastNumber Hold (shows 0 100 (fine 0 0) (fine 0 0) 500 false)
+    ∷ row (from (recordOf (freshOf settingsC) 4294967294 (replicate window (entryOf Hold (pos 100))))) lastNumber Hold (shows 0 100 (fine 0 0) (fine 0 0) 500 false)
     ∷ []
 
 -- ---- what the definitions make of it

@@ -2,13 +2,15 @@
 -- values. Walk the list, keeping a delivery when its number is one more than the count kept so far and the law accepts its
 -- content in the state reached. The end state is the law's after the kept commands, each given once. A kept delivery gets
 -- the law's output, an exact repeat of the latest kept one gets that same answer, and every other gets its named refusal."
+-- 02's request 6 amends "latest": an exact repeat of any of the last 32 kept ones gets its first answer.
 --
 -- The walk stands in memory/specs/Walk.antt, over any law; here are 01's plain law, what `deliver` makes of a list, and the
 -- demand itself.
+use Prim.Native.Nat.{ℕ, _+_, _-_}
 use mathlib.Core.Path.{_≡_}
 use mathlib.Core.List.{List, [], _∷_}
 use lib.IntN.{ℤ}
-use lib.ListN.{length}
+use lib.ListN.{length, take}
 use Rattle.command.specs.declared.Command.{Command}
 use Rattle.pid.specs.declared.record.Loop.{Loop}
 use Rattle.command.specs.Command.{same}
@@ -16,7 +18,8 @@ use Rattle.pid.specs.Law.{refusalOf, stepOf}
 use Rattle.command.specs.Sequence.{after, each}
 use Rattle.memory.specs.declared.Last.{Last}
 use Rattle.memory.specs.declared.Last.the-variants.{Nothing, Kept as Last·Kept}
-use Rattle.memory.specs.Memory.{window, lastOf}
+use Rattle.memory.specs.declared.Entry.{Entry}
+use Rattle.memory.specs.Memory.{window, entryOf, newest}
 use Rattle.memory.specs.Walk.{Law, Delivery, Answer, Kept, Walk, start, onward, answerTo, kept}
 use Rattle.delivery.specs.declared.numbered.Numbered.{Numbered}
 use Rattle.delivery.specs.declared.numbered.Delivered.{Delivered}
@@ -48,31 +51,40 @@ handedBack s d = deliveredOf s (d .number) (d .command) .state
 abbrev pub keptFrom : Loop → List (Delivery Command) → List Command
 keptFrom l ds = kept plain window (start plain window l) ds
 
+-- kept commands "with the output each was answered", oldest first
+abbrev pub keptEntries : Loop → List Command → List Entry
+keptEntries l cs = each stepOf (λ (m : Loop) (c : Command). entryOf c (stepOf m c .u)) l cs
+
+-- a record once these commands are kept: the law's state after them, each given once; their count above the last number; the last 32
+-- of those remembered and them
+abbrev pub afterKept : Numbered → List Command → Numbered
+afterKept s cs =
+    recordOf (after stepOf (s .state) cs) (s .memory .number + length cs) (take window (newest (s .memory .entries) (keptEntries (s .state) cs)))
+
 -- DEMAND 3 of the deliveries ds to a record s
 pub record Demand3 (s : Numbered) (ds : List (Delivery Command)) : Type 0 where
-  -- "The end state is the law's after the kept commands, each given once": the law's state, their count, the last of them
-  pub end-state :
-      after handedBack s ds
-      ≡ recordOf (after stepOf (s .state) (keptFrom (s .state) ds)) (length (keptFrom (s .state) ds)) (lastOf Nothing (keptFrom (s .state) ds))
-  -- "A kept delivery gets the law's output, an exact repeat of the latest kept one gets that same answer, and every other
-  -- gets its named refusal."
+  -- "The end state is the law's after the kept commands, each given once."
+  pub end-state : after handedBack s ds ≡ afterKept s (keptFrom (s .state) ds)
+  -- "A kept delivery gets the law's output, an exact repeat of [any of the last 32] gets that same answer, and every other gets its
+  -- named refusal."
   pub answers : each handedBack answered s ds ≡ each (onward plain window) (answerTo plain window) (start plain window (s .state)) ds
 
 -- ---- from any record that keeps the state rules, also one never reached
 
--- the latest kept delivery, as a record remembers it: its answer is the one that stands
-unfoldable pub recalled : Numbered → Last → List (Kept plain)
-recalled s Nothing = []
-recalled s (Last·Kept c) =
-    record {
-      sent = record { number = s .memory .number; command = c };
-      answer = record { code = 0; output = s .state .u; number = s .memory .number };
-    }
-    ∷ []
+-- an entry of number m as a kept delivery with its answer, before those that are older
+abbrev pub recalledBy : Last → ℤ → ℕ → List (Kept plain) → List (Kept plain)
+recalledBy Nothing output m older = []
+recalledBy (Last·Kept c) output m older =
+    record { sent = record { number = m; command = c }; answer = record { code = 0; output = output; number = m } } ∷ older
+
+-- the last kept deliveries, as a memory whose newest has number m remembers them
+unfoldable pub recalled : ℕ → List Entry → List (Kept plain)
+recalled m [] = []
+recalled m (e ∷ es) = recalledBy (e .command) (e .output) m (recalled (m - 1) es)
 
 -- where a walk stands that has come to s
 abbrev pub standing : Numbered → Walk plain
-standing s = record { state = s .state; count = s .memory .number; recent = recalled s (s .memory .last) }
+standing s = record { state = s .state; count = s .memory .number; recent = recalled (s .memory .number) (s .memory .entries) }
 
 abbrev pub keptOn : Numbered → List (Delivery Command) → List Command
 keptOn s ds = kept plain window (standing s) ds

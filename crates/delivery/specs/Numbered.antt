@@ -1,7 +1,8 @@
--- 01, "Numbered delivery": a loop with what it remembers, and what comes back when a command is delivered under a number, from
--- any record.
+-- 01, "Numbered delivery", amended by 02's request 6: a loop with what it remembers, and what comes back when a command is delivered
+-- under a number, from any record.
 use Prim.Native.Nat.{ℕ}
 use mathlib.Core.Bool.{Bool, cond, _&&_}
+use mathlib.Core.List.{List}
 use lib.Dec.{eqb}
 use lib.IntN.{pos}
 use Rattle.settings.specs.declared.Settings.{Settings}
@@ -9,19 +10,19 @@ use Rattle.command.specs.declared.Command.{Command}
 use Rattle.pid.specs.declared.record.Loop.{Loop}
 use Rattle.pid.specs.Record.{blankLoop, valid, madeOf as Loop·madeOf}
 use Rattle.pid.specs.Law.{refusalOf, stepOf}
-use Rattle.memory.specs.declared.Last.{Last}
+use Rattle.memory.specs.declared.Entry.{Entry}
 use Rattle.memory.specs.declared.Found.{Found}
 use Rattle.memory.specs.declared.Found.the-variants.{Old, Reused, Repeated, Ahead, Next}
-use Rattle.memory.specs.Memory.{noMemory, remembered, lastOk, foundOf}
+use Rattle.memory.specs.Memory.{noMemory, remembered, memoryOk as Memory·memoryOk, foundOf}
 use Rattle.delivery.specs.declared.numbered.Numbered.{Numbered}
 use Rattle.delivery.specs.declared.numbered.Made.{Made}
 use Rattle.delivery.specs.declared.numbered.Delivered.{Delivered}
 
 -- ---- the record
 
--- a loop, the last number and the last command
-abbrev pub recordOf : Loop → ℕ → Last → Numbered
-recordOf l number last = record { state = l; memory = record { number = number; last = last } }
+-- a loop, the last number and the last commands with their outputs
+abbrev pub recordOf : Loop → ℕ → List Entry → Numbered
+recordOf l number entries = record { state = l; memory = record { number = number; entries = entries } }
 
 -- a loop to which nothing has been delivered
 abbrev pub newOf : Loop → Numbered
@@ -35,9 +36,9 @@ blankOf = newOf blankLoop
 abbrev pub madeOf : Settings → Made
 madeOf s = record { code = Loop·madeOf s .code; state = newOf (Loop·madeOf s .state) }
 
--- the memory's state rule
+-- the memory's state rules; "their outputs lie in lo..hi"
 abbrev pub memoryOk : Numbered → Bool
-memoryOk s = lastOk (s .memory .number) (s .memory .last)
+memoryOk s = Memory·memoryOk (s .state .settings .lo) (s .state .settings .hi) (s .memory)
 
 -- the state rules, all of them
 abbrev pub validOf : Numbered → Bool
@@ -53,20 +54,24 @@ answerOf code s = record { code = code; output = s .state .u; number = s .memory
 abbrev pub brokenOf : Numbered → Delivered
 brokenOf s = record { code = 10; output = pos 0; number = 0; state = s }
 
--- "accepted, the number and command are remembered"
-abbrev pub keptOf : Loop → ℕ → Command → Numbered
-keptOf l number c = record { state = l; memory = remembered number c }
+-- "gets its first answer again: code 0, that output and its own number"
+abbrev pub repeatOf : ℕ → Entry → Numbered → Delivered
+repeatOf number e s = record { code = 0; output = e .output; number = number; state = s }
+
+-- "accepted, the number and command are remembered", with the output that is answered; l is what the law has left of the loop
+abbrev pub keptOf : Numbered → Loop → ℕ → Command → Numbered
+keptOf s l number c = record { state = l; memory = remembered (s .memory) number c (l .u) }
 
 -- "the law is tried; accepted, the number and command are remembered; refused, nothing is, and the number stays free"
 abbrev pub tryOf : Numbered → ℕ → Command → Delivered
 tryOf s number c =
-    cond (eqb (refusalOf (s .state) c) 0) (answerOf 0 (keptOf (stepOf (s .state) c) number c)) (answerOf (refusalOf (s .state) c) s)
+    cond (eqb (refusalOf (s .state) c) 0) (answerOf 0 (keptOf s (stepOf (s .state) c) number c)) (answerOf (refusalOf (s .state) c) s)
 
--- "a repeat, code 0, present u, nothing changes"; "every refusal hands back the record that came in"
+-- a repeat changes nothing; "every refusal hands back the record that came in"
 unfoldable pub servedOf : Numbered → ℕ → Command → Found → Delivered
 servedOf s number c Old = answerOf 1 s
 servedOf s number c Reused = answerOf 2 s
-servedOf s number c Repeated = answerOf 0 s
+servedOf s number c (Repeated e) = repeatOf number e s
 servedOf s number c Ahead = answerOf 3 s
 servedOf s number c Next = tryOf s number c
 
@@ -76,8 +81,8 @@ deliveredOf s number c = cond (validOf s) (servedOf s number c (foundOf (s .memo
 
 -- ---- the two ways of a delivery, each with the loop's own state rules
 
-unfoldable pub settledOf : Numbered → ℕ → Delivered
-settledOf s code = cond (valid (s .state)) (answerOf code s) (brokenOf s)
+unfoldable pub settledOf : Numbered → Delivered → Delivered
+settledOf s answer = cond (valid (s .state)) answer (brokenOf s)
 
 unfoldable pub triedOf : Numbered → ℕ → Command → Delivered
 triedOf s number c = cond (valid (s .state)) (tryOf s number c) (brokenOf s)

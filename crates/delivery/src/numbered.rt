@@ -1,7 +1,8 @@
 // 01's record as the queue sees it: a loop and what it remembers of its deliveries. Making one, its state rules, a delivery.
 ghost use mathlib.Core.Path.{_≡_};
-ghost use Rattle.delivery.specs.Numbered.{newOf, madeOf, blankOf, validOf, answerOf, brokenOf, keptOf, settledOf, triedOf, deliveredOf};
+ghost use Rattle.delivery.specs.Numbered.{newOf, madeOf, blankOf, memoryOk, validOf, answerOf, brokenOf, repeatOf, keptOf, settledOf, triedOf, deliveredOf};
 use command::Command;
+use memory::Entry;
 use memory::Found;
 use memory::Memory;
 use pid::record::Loop;
@@ -54,13 +55,20 @@ impl Numbered {
         }
     }
 
+    // Whether the memory keeps its state rules beside this loop.
+    pub(crate) fn remembers(self) -> bool
+        ensures { λ r. ⌜ r ≡ memoryOk self ⌝ }
+    {
+        let m = self.memory;
+        m.fits(self.state.settings.lo, self.state.settings.hi)
+    }
+
     // Whether the record keeps the state rules.
     pub fn is_valid(self) -> bool
         ensures { λ r. ⌜ r ≡ validOf self ⌝ }
     {
-        let m = self.memory;
         let l = self.state;
-        m.fits() & l.is_valid()
+        self.remembers() & l.is_valid()
     }
 
     fn answer(self, code: u8) -> Delivered
@@ -86,24 +94,41 @@ impl Numbered {
     }
 
     // The record with the loop that a command kept under a number has left.
-    pub(crate) fn keep(state: Loop, number: u32, c: Command) -> Numbered
-        ensures { λ r. ⌜ r ≡ keptOf state number c ⌝ }
+    fn keep(self, state: Loop, number: u32, c: Command) -> Numbered
+        ensures { λ r. ⌜ r ≡ keptOf self state number c ⌝ }
     {
+        let m = self.memory;
         Numbered {
             state,
-            memory: Memory::of(number, c),
+            memory: m.remember(number, c, state.u),
         }
     }
 
     // What the number alone decides comes after 10.
     fn settle(self, code: u8) -> Delivered
-        ensures { λ r. ⌜ r ≡ settledOf self code ⌝ }
+        ensures { λ r. ⌜ r ≡ settledOf self (answerOf code self) ⌝ }
     {
         let l = self.state;
         if l.is_valid() {
             return self.answer(code);
         }
         self.broken()
+    }
+
+    // A repeat "gets its first answer again: code 0, that output and its own number".
+    fn again(self, number: u32, e: Entry) -> Delivered
+        ensures { λ r. ⌜ r ≡ settledOf self (repeatOf number e self) ⌝ }
+    {
+        let l = self.state;
+        if !l.is_valid() {
+            return self.broken();
+        }
+        Delivered {
+            code: 0,
+            output: e.output,
+            number,
+            state: self,
+        }
     }
 
     // "Number = last + 1: the law is tried". It tests the loop's own state rules.
@@ -118,7 +143,7 @@ impl Numbered {
         }
         if code == 0 {
             let next = tried.state;
-            return Numbered::keep(next, number, c).answer(0);
+            return self.keep(next, number, c).answer(0);
         }
         self.answer(code)
     }
@@ -128,7 +153,7 @@ impl Numbered {
         ensures { λ r. ⌜ r ≡ deliveredOf self number c ⌝ }
     {
         let m = self.memory;
-        if !m.fits() {
+        if !self.remembers() {
             return self.broken();
         }
         let found = m.find(number, c);
@@ -136,7 +161,7 @@ impl Numbered {
             Found::Old => self.settle(1),
             Found::Reused => self.settle(2),
             Found::Ahead => self.settle(3),
-            Found::Repeated => self.settle(0),
+            Found::Repeated(e) => self.again(number, e),
             Found::Next => self.attempt(number, c),
         }
     }

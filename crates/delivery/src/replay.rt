@@ -6,7 +6,6 @@ ghost use lib.ListN.{length};
 ghost use Rattle.delivery.specs.Numbered.{memoryOk};
 ghost use Rattle.delivery.specs.Replay.{numbersLeft, refusedOf, stoppedOf, replayedOf, writtenOf};
 use crate::numbered::Numbered;
-use command::Command;
 
 pub struct Replayed {
     pub code: u8,
@@ -51,22 +50,14 @@ impl Numbered {
             return self.refused(code, played.place);
         }
         let n = samples.len();
-        if n == 0 {
-            return Replayed {
-                code: 0,
-                place: 0,
-                count: 0,
-                state: self,
-            };
-        }
-        let number = self.memory.number + n as u32;
-        let last = samples[n - 1];
+        let m = self.memory;
         let state = played.state;
+        let memory = m.fill(m.number + n as u32, samples, out);
         Replayed {
             code: 0,
             place: 0,
             count: n,
-            state: Numbered::keep(state, number, Command::Sample(last)),
+            state: Numbered { state, memory },
         }
     }
 
@@ -75,9 +66,8 @@ impl Numbered {
         ensures { λ r. ⌜ r ≡ replayedOf self first (now (samples .entry)) (length (now (out .entry))) ⌝ }
         ensures { λ _. ⌜ now (out .exit) ≡ writtenOf self first (now (samples .entry)) (now (out .entry)) ⌝ }
     {
-        let m = self.memory;
-        let last = m.number;
-        if !m.fits() {
+        let last = self.memory.number;
+        if !self.remembers() {
             return self.refused(10, 0);
         }
         if first <= last {

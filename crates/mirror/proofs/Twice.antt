@@ -3,14 +3,16 @@ use mathlib.Core.Path.{_≡_, refl}
 use native.Mathlib.Omega.{arith}
 use lib.IntN.{ℤ, pos, _-ℤ_, negℤ-negℤ}
 use Rattle.whole.proofs.Parts.{zs}
+use Rattle.whole.proofs.Lists.{map-twice}
 use Rattle.whole.proofs.Lin.{Lin, at, lins}
 use Rattle.command.specs.declared.Command.{Command}
 use Rattle.command.specs.declared.Command.the-variants.{Sample, Hold, Put, Automatic, Target, Set}
 use Rattle.pid.specs.declared.record.Loop.{Loop}
 use Rattle.memory.specs.declared.Last.{Last}
 use Rattle.memory.specs.declared.Last.the-variants.{Nothing, Kept}
+use Rattle.memory.specs.declared.Entry.{Entry}
 use Rattle.delivery.specs.declared.numbered.Numbered.{Numbered}
-use Rattle.mirror.specs.Mirror.{Mirror, ofAction, ofTemperatures, flipTemperature, flipAction, flipCommand, flipLoop, flipLast, flipNumbered}
+use Rattle.mirror.specs.Mirror.{Mirror, ofAction, ofTemperatures, flipTemperature, flipAction, flipCommand, flipLoop, flipLast, flipEntry, flipNumbered}
 use Rattle.mirror.proofs.Windows.{window-twice}
 
 temperature-twice : (k : Mirror) (z : ℤ) → flipTemperature k (flipTemperature k z) ≡ z
@@ -42,5 +44,8 @@ last-twice k (Kept c) = cc (command-twice k c)
 loop-twice : (k : Mirror) (l : Loop) → flipLoop k (flipLoop k l) ≡ l
 loop-twice k l = simp twices
 
+entry-twice : (k : Mirror) (e : Entry) → flipEntry k (flipEntry k e) ≡ e
+entry-twice k e = rw (last-twice k (e .command), negℤ-negℤ (e .output))
+
 pub numbered-twice : (k : Mirror) (s : Numbered) → flipNumbered k (flipNumbered k s) ≡ s
-numbered-twice k s = rw (loop-twice k (s .state), last-twice k (s .memory .last))
+numbered-twice k s = rw (loop-twice k (s .state), map-twice (flipEntry k) (entry-twice k) (s .memory .entries))

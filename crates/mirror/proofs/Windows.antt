@@ -8,6 +8,7 @@ use lib.ListN.{length, take, length-map}
 use Rattle.whole.specs.Rounding.{nearest}
 use Rattle.whole.proofs.Nearest.{nearest-neg}
 use Rattle.whole.proofs.Negated.{eqZ-neg}
+use Rattle.whole.proofs.Lists.{map-take, map-twice}
 use Rattle.settings.specs.Table.{reach, window}
 use Rattle.window.specs.declared.Window.{Window}
 use Rattle.window.specs.Window.{placesOk, windowOk, taken, latest, sumOf, meanOf, meanAt}
@@ -16,11 +17,7 @@ use Rattle.mirror.proofs.Settings.{range-neg}
 
 pub window-twice : (k : Mirror) (w : Window) → flipWindow k (flipWindow k w) ≡ w
 window-twice ofAction w = refl
-window-twice ofTemperatures w = ap (λ (xs : List ℤ). record { places = xs; seen = w .seen }) (back (w .places))
-  where
-    back : (xs : List ℤ) → map negℤ (map negℤ xs) ≡ xs
-    back [] = refl
-    back (x ∷ xs) = ap₂ (λ (z : ℤ) (zs : List ℤ). z ∷ zs) (negℤ-negℤ x) (back xs)
+window-twice ofTemperatures w = ap (λ (xs : List ℤ). record { places = xs; seen = w .seen }) (map-twice negℤ negℤ-negℤ (w .places))
 
 -- ---- the rules
 
@@ -36,15 +33,10 @@ window-mirror ofTemperatures w = rw (places-neg (w .seen) (w .places))
 
 -- ---- a sample
 
-take-map : (n : ℕ) (xs : List ℤ) → take n (map negℤ xs) ≡ map negℤ (take n xs)
-take-map zero xs = refl
-take-map (suc n) [] = refl
-take-map (suc n) (x ∷ xs) = ap (λ (zs : List ℤ). negℤ x ∷ zs) (take-map n xs)
-
 pub taken-mirror : (k : Mirror) (w : Window) (pv : ℤ) → taken (flipWindow k w) (flipTemperature k pv) ≡ flipWindow k (taken w pv)
 unfolding taken
 taken-mirror ofAction w pv = refl
-taken-mirror ofTemperatures w pv = rw (take-map window (pv ∷ w .places))
+taken-mirror ofTemperatures w pv = rw (map-take negℤ window (pv ∷ w .places))
 
 sum-neg : (xs : List ℤ) → sumOf (map negℤ xs) ≡ negℤ (sumOf xs)
 sum-neg [] = refl
@@ -61,5 +53,5 @@ mean-mirror ofAction m w pv = refl
 mean-mirror ofTemperatures m w pv =
     let v = taken w pv in
     ap (λ (x : Window). meanOf (latest m x)) (taken-mirror ofTemperatures w pv)
-    ∙ ap meanOf (ap (take m) (take-map (v .seen) (v .places)) ∙ take-map m (take (v .seen) (v .places)))
+    ∙ ap meanOf (ap (take m) (map-take negℤ (v .seen) (v .places)) ∙ map-take negℤ m (take (v .seen) (v .places)))
     ∙ mean-neg (latest m v)

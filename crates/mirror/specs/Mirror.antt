@@ -14,6 +14,8 @@ use Rattle.pid.specs.declared.law.Obeyed.{Obeyed}
 use Rattle.pid.specs.declared.play.Played.{Played}
 use Rattle.memory.specs.declared.Last.{Last}
 use Rattle.memory.specs.declared.Last.the-variants.{Nothing, Kept}
+use Rattle.memory.specs.declared.Entry.{Entry}
+use Rattle.memory.specs.declared.Memory.{Memory}
 use Rattle.memory.specs.Walk.{Delivery, Answer}
 use Rattle.delivery.specs.declared.numbered.Numbered.{Numbered}
 use Rattle.delivery.specs.declared.numbered.Delivered.{Delivered}
@@ -96,11 +98,15 @@ abbrev pub flipLast : Mirror → Last → Last
 flipLast k Nothing = Nothing
 flipLast k (Kept c) = Kept (flipCommand k c)
 
+-- the output that a command was answered changes sign as every output does
+abbrev pub flipEntry : Mirror → Entry → Entry
+flipEntry k e = record { command = flipLast k (e .command); output = negℤ (e .output) }
+
+abbrev pub flipMemory : Mirror → Memory → Memory
+flipMemory k m = record { number = m .number; entries = map (flipEntry k) (m .entries) }
+
 abbrev pub flipNumbered : Mirror → Numbered → Numbered
-flipNumbered k s = record {
-  state = flipLoop k (s .state);
-  memory = record { number = s .memory .number; last = flipLast k (s .memory .last) };
-}
+flipNumbered k s = record { state = flipLoop k (s .state); memory = flipMemory k (s .memory) }
 
 abbrev pub flipDelivery : Mirror → Delivery Command → Delivery Command
 flipDelivery k d = record { number = d .number; command = flipCommand k (d .command) }

@@ -1,4 +1,4 @@
-mod Fit
+pub mod Fit
 pub mod Shapes
 pub mod Rounding
 pub mod Arithmetic

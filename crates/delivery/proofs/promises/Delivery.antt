@@ -1,11 +1,9 @@
 -- DEMAND 1, of numbered delivery: "A refused call changes no loop [..]. From any record that passes 01's state rules, power
 -- stays within the loop's limits and the integral within 01's bound." And what 01 says of numbers, from any such record.
-use Prim.Native.Nat.{ℕ, _+_, _≤_}
-use mathlib.Core.Path.{_≡_, refl, sym, ap, _∙_}
-use mathlib.Core.Bool.{true, false, _&&_}
+use Prim.Native.Nat.{ℕ, _+_}
+use mathlib.Core.Path.{_≡_, refl, sym, ap, ap₂, _∙_}
+use mathlib.Core.Bool.{Bool, true, false, _&&_}
 use mathlib.Core.List.{List}
-use lib.ListN.{length}
-use native.Mathlib.Omega.{arith}
 use borrow.Author.Tests.{eqb-true, eq-eqb}
 use lib.Dec.{eqb}
 use lib.IntN.{pos}
@@ -22,23 +20,24 @@ use Rattle.command.specs.Sequence.{after}
 use Rattle.window.specs.Window.{freshWindow, windowOk}
 use Rattle.pid.proofs.Sound.{holds-of}
 use Rattle.pid.proofs.promises.Demand1 as law
-use Rattle.memory.specs.Memory.{lastNumber, isLast, lastOf}
+use Rattle.memory.specs.Memory.{window, memoryOk as Memory·memoryOk}
+use Rattle.memory.proofs.Rules.{no-memory-ok}
 use Rattle.memory.specs.Walk.{Delivery}
 use Rattle.delivery.specs.declared.numbered.Numbered.{Numbered}
 use Rattle.delivery.specs.declared.numbered.Delivered.{Delivered}
-use Rattle.delivery.specs.Numbered.{recordOf, newOf, madeOf, blankOf, memoryOk, validOf, answerOf, keptOf, deliveredOf}
-use Rattle.delivery.specs.Demand3.{handedBack, keptOn}
+use Rattle.delivery.specs.Numbered.{newOf, madeOf, blankOf, memoryOk, validOf, answerOf, keptOf, deliveredOf}
+use Rattle.delivery.specs.Demand3.{handedBack, afterKept, keptOn}
 use Rattle.delivery.specs.Bench.{atLimit}
 use Rattle.delivery.proofs.Served.{by-delivery, kept-one, kept-twice, delivered-valid}
 use Rattle.delivery.proofs.Ended.{end-from}
 
 -- "Every loop the software makes keeps them"
 pub made-valid : (s : Settings) → madeOf s .code ≡ 0 → validOf (madeOf s .state) ≡ true
-made-valid s e = and refl (law.made-valid s e)
+made-valid s e = and (no-memory-ok _ _) (law.made-valid s e)
 
 -- "The blank breaks the state rules (lo is not below hi)."
 pub blank-broken : validOf blankOf ≡ false
-blank-broken = ap (λ b. true && b) law.blank-broken
+blank-broken = ap₂ (λ (a b : Bool). a && b) (no-memory-ok _ _) law.blank-broken
 
 -- the record that comes back keeps the state rules
 pub again-valid : (s : Numbered) (n : ℕ) (c : Command) → validOf s ≡ true → validOf (deliveredOf s n c .state) ≡ true
@@ -61,7 +60,7 @@ integral-within s n c v = holds-of (deliveredOf s n c .state .state) (loop-valid
 pub refused-back : (s : Numbered) (n : ℕ) (c : Command) → (deliveredOf s n c .code ≡ 0 → ⊥) → deliveredOf s n c .state ≡ s
 refused-back s n c =
     by-delivery (λ (r : Delivered). (r .code ≡ 0 → ⊥) → r .state ≡ s) s n c
-    (λ _ _. refl) (λ _ _ _ _. refl) (λ _ _ _ _ _. refl) (λ _ _ _ f. absurd (f refl))
+    (λ _ _. refl) (λ _ _ _ _. refl) (λ _ _ _ _ _ _. refl) (λ _ _ _ f. absurd (f refl))
 
 -- "A record breaking the state rules gets code 10, output 0 and number 0."
 pub broken-ten : (s : Numbered) (n : ℕ) (c : Command) → validOf s ≡ false →
@@ -71,14 +70,14 @@ broken-ten s n c v = cond-no _ _ v
 
 -- "Number = last + 1: the law is tried; accepted, the number and command are remembered"
 pub kept-is-law : (s : Numbered) (n : ℕ) (c : Command) → validOf s ≡ true → n ≡ s .memory .number + 1 → refusalOf (s .state) c ≡ 0 →
-    deliveredOf s n c ≡ answerOf 0 (keptOf (stepOf (s .state) c) n c)
+    deliveredOf s n c ≡ answerOf 0 (keptOf s (stepOf (s .state) c) n c)
 kept-is-law = kept-one
 
 -- every other delivery leaves the record that came in: a repeat, an old or reused number, a gap, content that the law refuses
 pub other-leaves : (s : Numbered) (n : ℕ) (c : Command) → (n ≡ s .memory .number + 1 → refusalOf (s .state) c ≡ 0 → ⊥) → deliveredOf s n c .state ≡ s
 other-leaves s n c f =
     by-delivery (λ (r : Delivered). r .state ≡ s) s n c
-    (λ _. refl) (λ _ _ _. refl) (λ _ _ _ _. refl) (λ _ e z. absurd (f e z))
+    (λ _. refl) (λ _ _ _. refl) (λ _ _ _ _ _. refl) (λ _ e z. absurd (f e z))
 
 -- "every command carries a number, and a second delivery of it must write nothing": whatever the first delivery did, the
 -- second gets the same answer and leaves the same record
@@ -91,20 +90,11 @@ second-writes-nothing s n c =
     (λ e. ap (λ (x : Numbered). deliveredOf x n c) (other-leaves s n c (λ p q. never (sym e ∙ and (eq-eqb n (s .memory .number + 1) p) (eq-eqb (refusalOf (s .state) c) 0 q))))))
     (λ v. ap (λ (r : Delivered). deliveredOf (r .state) n c) (broken-ten s n c v))
 
--- "After number 4,294,967,295 only its repeat is served."
-pub last-number : (s : Numbered) (n : ℕ) (c : Command) → s .memory .number ≡ lastNumber → n ≤ lastNumber → deliveredOf s n c .code ≡ 0 →
-    (n ≡ s .memory .number) × (isLast (s .memory .last) c ≡ true)
-last-number s n c e h =
-    by-delivery (λ (r : Delivered). r .code ≡ 0 → (n ≡ s .memory .number) × (isLast (s .memory .last) c ≡ true)) s n c
-    (λ _ z. absurd (omega (arith, z))) (λ _ _ f z. absurd (f z)) (λ _ q _ t _. (q, t)) (λ _ q _ _. absurd (omega (arith, q)))
-
--- the end state after a list, from any record that keeps the rules: the law's after the kept commands, the count, the last
-pub end-state : (s : Numbered) (ds : List (Delivery Command)) → validOf s ≡ true →
-    after handedBack s ds
-    ≡ recordOf (after stepOf (s .state) (keptOn s ds)) (s .memory .number + length (keptOn s ds)) (lastOf (s .memory .last) (keptOn s ds))
+-- the end state after a list, from any record that keeps the rules: the law's after the kept commands, the count, the last 32
+pub end-state : (s : Numbered) (ds : List (Delivery Command)) → validOf s ≡ true → after handedBack s ds ≡ afterKept s (keptOn s ds)
 end-state s ds v = end-from s v ds
 
 -- a record that keeps the state rules and is never reached: automatic, with nothing kept
 pub never-reached : validOf (newOf (atLimit 0 (fine 900 0))) ≡ true
-unfolding freshWindow windowOk valid inTable rowsOf
+unfolding freshWindow windowOk valid inTable rowsOf window Memory·memoryOk
 never-reached = refl

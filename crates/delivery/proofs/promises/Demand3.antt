@@ -1,11 +1,11 @@
 -- DEMAND 3. Its sentences and the statement `Demand3` stand together in specs/Demand3.antt, the walk in memory/specs/Walk.antt;
 -- here it is shown.
-use mathlib.Core.Path.{_≡_, refl, subst}
+use Prim.Native.Nat.{ℕ, zero, suc}
+use mathlib.Core.Path.{_≡_, refl, sym, ap, subst, _∙_}
 use mathlib.Core.Bool.{true}
 use mathlib.Core.List.{List, [], _∷_, map}
-use native.Mathlib.Nat.{zero-add}
 use lib.IntN.{pos, _+ℤ_}
-use lib.ListN.{length, take}
+use lib.ListN.{take, replicate}
 use Rattle.settings.specs.declared.Settings.{Settings}
 use Rattle.settings.specs.Table.{rowsOf}
 use Rattle.settings.specs.Settings.{inTable}
@@ -19,28 +19,39 @@ use Rattle.command.specs.Command.{same}
 use Rattle.pid.specs.Record.{freshOf, valid, madeOf as Loop·madeOf}
 use Rattle.pid.specs.Sample.{lesser, greater, limited, ramped, filtered, derivative, sensedOf, clamped, backCalculated, integrated, actedOf}
 use Rattle.pid.specs.Law.{sampleOf, stepOf, refusalOf}
-use Rattle.command.specs.Sequence.{after}
+use Rattle.command.specs.Sequence.{after, each}
 use Rattle.pid.specs.Run.{unbroken, shares}
 use Rattle.command.proofs.Same.{same-equal, same-self}
 use Rattle.pid.proofs.promises.Demand1.{made-valid}
-use Rattle.memory.specs.Memory.{window}
+use Rattle.memory.specs.declared.Entry.{Entry}
+use Rattle.memory.specs.Memory.{window, noEntry}
 use Rattle.memory.specs.Walk.{Delivery, start, kept}
 use Rattle.memory.proofs.Walked.{runs-start, all-answers}
 use Rattle.delivery.specs.declared.numbered.Numbered.{Numbered}
-use Rattle.delivery.specs.Numbered.{newOf, madeOf, validOf}
-use Rattle.delivery.specs.Demand3.{plain, handedBack, keptFrom, Demand3, keptOn}
+use Rattle.delivery.specs.Numbered.{recordOf, newOf, madeOf, validOf}
+use Rattle.delivery.specs.Demand3.{plain, answered, handedBack, afterKept, keptFrom, Demand3, keptOn}
 use Rattle.delivery.specs.Bench.{Row, log}
-use Rattle.delivery.proofs.Stands.{lastIn, Good, numbered}
+use Rattle.delivery.proofs.Stands.{places, standsAt, Good, numbered}
 use Rattle.delivery.proofs.Ended.{end-after, delivered-shares}
+
+blank-places : (n : ℕ) → places n [] ≡ replicate n noEntry
+unfolding places
+blank-places zero = refl
+blank-places (suc n) = ap (λ (es : List Entry). noEntry ∷ es) (blank-places n)
 
 -- of any loop that keeps its state rules, with nothing delivered yet
 new-demand : (l : Loop) (ds : List (Delivery Command)) → valid l ≡ true → Demand3 (newOf l) ds
-unfolding lastIn
 new-demand l ds v =
-    let g : Good (start plain window l) = record { rules = v; newest = refl } in
+    let w = start plain window l in
+    let g : Good w = record { rules = v; outputs = refl } in
+    let e : standsAt w ≡ newOf l = ap (recordOf l 0) (blank-places window) in
     record {
-      end-state = rw (zero-add (length (keptFrom l ds))) at (end-after (start plain window l) ds g (runs-start plain window));
-      answers = all-answers plain window numbered (start plain window l) ds g (runs-start plain window);
+      end-state =
+          ap (λ (s : Numbered). after handedBack s ds) (sym e)
+          ∙ end-after w ds g (runs-start plain window)
+          ∙ ap (λ (s : Numbered). afterKept s (keptFrom l ds)) e;
+      answers =
+          ap (λ (s : Numbered). each handedBack answered s ds) (sym e) ∙ all-answers plain window numbered w ds g (runs-start plain window);
     }
 
 -- "Start a loop from accepted settings and deliver any list at all"

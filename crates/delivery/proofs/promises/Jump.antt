@@ -30,6 +30,7 @@ use Rattle.pid.specs.Plain.{plainRefusalOf}
 use Rattle.pid.specs.Run.{obeyed, accepted, samples}
 use Rattle.pid.proofs.Obeys.{settings-after}
 use Rattle.pid.proofs.promises.Jump.{farthest-is-plain, taken-is-near, neighbours}
+use Rattle.memory.specs.Memory.{window, memoryOk as Memory·memoryOk}
 use Rattle.memory.specs.Walk.{Delivery, kept}
 use Rattle.delivery.specs.declared.numbered.Numbered.{Numbered}
 use Rattle.delivery.specs.declared.replay.Replayed.{Replayed}
@@ -110,5 +111,5 @@ pub replays-met :
     (replayed (pos 490 ∷ pos 479 ∷ []) ≡ refusedOf tight 19 1)
     × (replayed (pos 490 ∷ pos 501 ∷ pos 1000001 ∷ []) ≡ refusedOf tight 19 1)
     × (replayed (pos 490 ∷ pos 1000001 ∷ pos 5 ∷ []) ≡ refusedOf tight 4 1)
-unfolding rowsOf inTable freshWindow windowOk valid codeOf firstBad firstCode replayRefusal replayedOf
+unfolding rowsOf inTable freshWindow windowOk valid window Memory·memoryOk codeOf firstBad firstCode replayRefusal replayedOf
 replays-met = (refl, refl, refl)

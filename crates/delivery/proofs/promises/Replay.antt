@@ -21,17 +21,17 @@ use Rattle.temperature.specs.Temperature.{codeOf, firstBad, firstCode}
 use Rattle.temperature.proofs.Earliest.{front-good}
 use Rattle.temperature.proofs.promises.Jump.{codeAt, earliest, none-bad, all-good}
 use Rattle.pid.specs.Record.{freshOf, inB, guardOf, valid}
-use Rattle.pid.specs.Play.{hasPlace, afterSamples}
+use Rattle.pid.specs.Play.{hasPlace, afterSamples, outputsOf}
 use Rattle.command.specs.Sequence.{after, each}
 use Rattle.window.specs.Window.{freshWindow, windowOk}
 use Rattle.pid.proofs.Sound.{holds-of}
 use Rattle.pid.proofs.Plays.{bad-after}
-use Rattle.memory.specs.Memory.{lastNumber, lastOf}
+use Rattle.memory.specs.Memory.{window, memoryOk as Memory·memoryOk, lastNumber, filledOf}
 use Rattle.memory.specs.Walk.{Answer}
 use Rattle.delivery.specs.declared.numbered.Numbered.{Numbered}
 use Rattle.delivery.specs.declared.numbered.Delivered.{Delivered}
 use Rattle.delivery.specs.declared.replay.Replayed.{Replayed}
-use Rattle.delivery.specs.Numbered.{recordOf, newOf, memoryOk, validOf, deliveredOf}
+use Rattle.delivery.specs.Numbered.{newOf, memoryOk, validOf, deliveredOf}
 use Rattle.delivery.specs.Demand3.{handedBack, answered, standing, keptOn}
 use Rattle.delivery.specs.Replay.{numbered, recordAfter, numbersLeft, replayRefusal, replayedOf, writtenOf}
 use Rattle.delivery.proofs.Ended.{all-valid}
@@ -91,6 +91,7 @@ pub record RefusedAt (s : Numbered) (first : ℕ) (samples : List ℤ) (code pla
 -- of the next number on
 refused-next : (s : Numbered) (samples : List ℤ) → validOf s ≡ true → (firstCode (guardOf (s .state)) samples ≡ 0 → ⊥) →
     RefusedAt s (s .memory .number + 1) samples (firstCode (guardOf (s .state)) samples) (firstBad (guardOf (s .state)) samples)
+unfolding filledOf
 refused-next s samples v h =
     let l = s .state in
     let n = firstBad (guardOf l) samples in
@@ -102,7 +103,7 @@ refused-next s samples v h =
     let long = length-take-le n samples (omega (arith, e .there)) in
     let x = record-is s t v f in
     let u = ap validOf (sym x) ∙ all-valid s (numbered (s .memory .number + 1) t) v in
-    let r = recordOf (afterSamples l t) (s .memory .number + length t) (lastOf (s .memory .last) (map Sample t)) in
+    let r : Numbered = record { state = afterSamples l t; memory = filledOf (s .memory) (s .memory .number + length t) t (outputsOf l t) } in
     record {
       there = e .there;
       before = all-kept (standing s) t f;
@@ -193,5 +194,5 @@ integral-within s first samples out v =
 
 -- a replay that is not refused
 pub taken-C : replayRefusal (newOf (freshOf settingsC)) 1 (pos 480 ∷ []) 1 ≡ 0
-unfolding replayRefusal firstCode codeOf freshWindow windowOk valid inTable rowsOf
+unfolding replayRefusal firstCode codeOf freshWindow windowOk valid inTable rowsOf window Memory·memoryOk
 taken-C = refl

@@ -19,6 +19,7 @@ use Rattle.pid.specs.declared.law.Obeyed.{Obeyed}
 use Rattle.pid.specs.Record.{madeOf as Loop·madeOf}
 use Rattle.pid.specs.Law.{lawOf}
 use Rattle.pid.specs.Play.{playedOf, wroteOf}
+use Rattle.memory.specs.Memory.{window}
 use Rattle.memory.specs.Walk.{Delivery}
 use Rattle.delivery.specs.declared.numbered.Numbered.{Numbered}
 use Rattle.delivery.specs.Numbered.{madeOf, validOf, deliveredOf}
@@ -46,7 +47,7 @@ made-code k s = rw (settings-mirror k s) (by-test (eqb (settingsRefusal s) 0) (�
 
 -- and the loops made from accepted ones mirror each other
 pub made-state : (k : Mirror) (s : Settings) → madeOf s .code ≡ 0 → madeOf (flipSettings k s) .state ≡ flipNumbered k (madeOf s .state)
-unfolding Loop·madeOf
+unfolding Loop·madeOf window
 made-state k s z =
     by-test (eqb (settingsRefusal s) 0)
     (λ e. rw (settings-mirror k s, e, fresh-mirror k s))

@@ -21,7 +21,7 @@ use Rattle.pid.specs.Sample.{lesser, greater, limited, ramped, filtered, deriva
 use Rattle.pid.specs.Law.{fixedOf, movingOf, readAt, sampleOf, stepOf, refusalOf, lawOf}
 use Rattle.pid.specs.Run.{sensedAt}
 use Rattle.pid.specs.Play.{playRefusal, wroteOf}
-use Rattle.memory.specs.Memory.{isLast, foundBy}
+use Rattle.memory.specs.Memory.{window, memoryOk, remembered, isLast, foundIn, foundBy}
 use Rattle.memory.specs.Walk.{Delivery, Answer}
 use Rattle.delivery.specs.declared.numbered.Numbered.{Numbered}
 use Rattle.delivery.specs.Numbered.{madeOf, servedOf, deliveredOf}
@@ -91,7 +91,8 @@ abbrev send : ℕ → Command → Delivery Command
 send number c = record { number = number; command = c }
 
 -- the put takes u to hi. The sixth is a transfer sample: y moves by half a fine unit, and D is half of one. Of the seventh v
--- lies one fine unit past hi, and kt gives half of it back. Of the tenth U is 998.5. Then a repeat, a gap and a refused put
+-- lies one fine unit past hi, and kt gives half of it back. Of the tenth U is 998.5. Then a repeat, a late repeat, a gap
+-- and a refused put
 abbrev sent : List (Delivery Command)
 sent =
     send 1 (Put (pos 1000))
@@ -105,6 +106,7 @@ sent =
     ∷ send 9 (Sample (pos 0))
     ∷ send 10 (Sample (pos 3))
     ∷ send 10 (Sample (pos 3))
+    ∷ send 9 (Sample (pos 0))
     ∷ send 12 (Sample (pos 3))
     ∷ send 11 (Put (pos 50))
     ∷ []
@@ -151,11 +153,12 @@ imageShown k = shownOf (flipSettings k oven) (map (flipDelivery k) sent) (flipTe
 abbrev half : ℤ
 half = pos 32768
 
--- the codes and numbers, with the output before the tenth and from there on
+-- the codes and numbers, with the output before the tenth and from there on: the late repeat has the output of the ninth
 abbrev answersWith : ℤ → ℤ → List (Answer ℤ)
 answersWith u v =
     map (λ n. record { code = 0; output = u; number = n }) (1 ∷ 2 ∷ 3 ∷ 4 ∷ 5 ∷ 6 ∷ 7 ∷ 8 ∷ 9 ∷ [])
-    ++ map (λ code. record { code = code; output = v; number = 10 }) (0 ∷ 0 ∷ 3 ∷ 6 ∷ [])
+    ++ map (λ code. record { code = code; output = v; number = 10 }) (0 ∷ 0 ∷ [])
+    ++ (record { code = 0; output = u; number = 9 } ∷ map (λ code. record { code = code; output = v; number = 10 }) (3 ∷ 6 ∷ []))
 
 -- the oven; the cooler: "every output and the integral change sign, w and y do not"; the cold oven: "outputs, integral, w and y
 -- all change sign". Each place that rounds meets a half, of either sign in one of the three or another
@@ -187,7 +190,7 @@ pub mirrored :
       played = negℤ (pos 1000) ∷ negℤ (pos 999) ∷ negℤ (pos 7) ∷ [];
       replayed = negℤ (pos 1000) ∷ negℤ (pos 999) ∷ negℤ (pos 7) ∷ [];
     })
-unfolding Loop·madeOf rounded rowsOf inTable freshWindow taken meanAt windowOk valid lesser greater limited ramped filtered derivative sensedOf clamped backCalculated integrated actedOf sampleOf stepOf refusalOf lawOf isLast foundBy servedOf deliveredOf after each codeOf firstCode playRefusal wroteOf numbered replayRefusal writtenOf
+unfolding Loop·madeOf rounded rowsOf inTable freshWindow taken meanAt windowOk valid lesser greater limited ramped filtered derivative sensedOf clamped backCalculated integrated actedOf sampleOf stepOf refusalOf lawOf window memoryOk remembered isLast foundIn foundBy servedOf deliveredOf after each codeOf firstCode playRefusal wroteOf numbered replayRefusal writtenOf
 mirrored = (refl, refl, refl)
 
 -- ---- "no value being the least of its type"

@@ -12,7 +12,7 @@ use Rattle.pid.specs.Units.{rounded}
 use Rattle.pid.specs.Record.{valid, madeOf}
 use Rattle.pid.specs.Sample.{lesser, greater, limited, ramped, filtered, derivative, sensedOf, clamped, backCalculated, integrated, actedOf}
 use Rattle.pid.specs.Law.{sampleOf, stepOf, refusalOf}
-use Rattle.memory.specs.Memory.{isLast, foundBy}
+use Rattle.memory.specs.Memory.{window, memoryOk, remembered, isLast, foundIn, foundBy}
 use Rattle.delivery.specs.Numbered.{servedOf, deliveredOf}
 use Rattle.text.specs.declared.reader.Reading.{Reading}
 use Rattle.word.specs.Decimal.{isSize, hasMinus, unsigned, sizeOf, isDecimal, numberOf, shown}
@@ -75,9 +75,9 @@ by-reading [] = refl
 by-reading (c ∷ cs) = ap (λ (os : List (List ℕ)). outputOf false textC (c .file) ∷ os) (by-reading cs)
 
 pub examples : played cases ≡ outputs cases
-unfolding rowsOf inTable rounded freshWindow taken meanAt windowOk valid madeOf lesser greater limited ramped filtered derivative sensedOf clamped backCalculated integrated actedOf codeOf sampleOf stepOf refusalOf isLast foundBy servedOf deliveredOf isSize hasMinus unsigned sizeOf isDecimal numberOf shown refusedLine keeping byAnswer bySample sampleLine judging byteOf finishing firstLoop begunBy playedBy three malformed range empty unended outputs cases
+unfolding rowsOf inTable rounded freshWindow taken meanAt windowOk valid madeOf lesser greater limited ramped filtered derivative sensedOf clamped backCalculated integrated actedOf codeOf sampleOf stepOf refusalOf window memoryOk remembered isLast foundIn foundBy servedOf deliveredOf isSize hasMinus unsigned sizeOf isDecimal numberOf shown refusedLine keeping byAnswer bySample sampleLine judging byteOf finishing firstLoop begunBy playedBy three malformed range empty unended outputs cases
 examples = by-reading cases ∙ ap (λ (d : Reading). playedBy d cases) c-read ∙ refl
 
 pub wild-refused : playedBy (record { code = 0; line = 0; settings = settingsWith (pos 1) (pos 10) }) (wild ∷ []) ≡ outputs (wild ∷ [])
-unfolding rowsOf inTable rounded freshWindow taken meanAt windowOk valid madeOf lesser greater limited ramped filtered derivative sensedOf clamped backCalculated integrated actedOf codeOf sampleOf stepOf refusalOf isLast foundBy servedOf deliveredOf isSize hasMinus unsigned sizeOf isDecimal numberOf shown refusedLine keeping byAnswer bySample sampleLine judging byteOf finishing firstLoop begunBy playedBy wild outputs
+unfolding rowsOf inTable rounded freshWindow taken meanAt windowOk valid madeOf lesser greater limited ramped filtered derivative sensedOf clamped backCalculated integrated actedOf codeOf sampleOf stepOf refusalOf window memoryOk remembered isLast foundIn foundBy servedOf deliveredOf isSize hasMinus unsigned sizeOf isDecimal numberOf shown refusedLine keeping byAnswer bySample sampleLine judging byteOf finishing firstLoop begunBy playedBy wild outputs
 wild-refused = refl

@@ -11,8 +11,8 @@ use borrow.Author.Needs.{needs}
 use Rattle.delivery.proofs.numbered.Numbered.deliver.Statement.{statement}
 use Rattle.delivery.proofs.numbered.Numbered.deliver.Tie as tie
 
-fits-requires : tie.Need-fits-requires
-fits-requires c κs = search needs
+remembers-requires : tie.Need-remembers-requires
+remembers-requires c κs = search needs
 
 broken-requires : tie.Need-broken-requires
 broken-requires c κs = search needs
@@ -20,7 +20,7 @@ broken-requires c κs = search needs
 returns : tie.Need-returns
 returns c =
     let s = c .before .before .before .before in
-    let f = c .before .before .fits2 in
+    let f = c .before .before .remembers in
     c .broken .ensures ∙ broken-memory (s .args .self) (s .args .number) (s .args .c) (so (f .ensures) (not-true (f .result) (c .before .if1 .taken)))
 
 find-requires : tie.Need-find-requires
@@ -32,7 +32,7 @@ found : (c : tie.After-find) (f : Found) → c .find .result ≡ f →
     ≡ deliveredOf (c .before .before .before .before .args .self) (c .before .before .before .before .args .number) (c .before .before .before .before .args .c)
 found c f e =
     let s = c .before .before .before .before in
-    let m = c .before .before .fits2 in
+    let m = c .before .before .remembers in
     by-number (s .args .self) (s .args .number) (s .args .c) (so (m .ensures) (not-false (m .result) (c .before .if1 .left))) f (so (c .find .ensures) e)
 
 enum-told : tie.Need-enum-told
@@ -53,14 +53,14 @@ enum-told-3 c = search needs
 settle-requires-3 : tie.Need-settle-requires-3
 settle-requires-3 c κs = search needs
 
+enum-known-found : tie.Need-enum-known-found
+enum-known-found c = search needs
+
+again-requires : tie.Need-again-requires
+again-requires c κs = search needs
+
 enum-told-4 : tie.Need-enum-told-4
 enum-told-4 c = search needs
-
-settle-requires-4 : tie.Need-settle-requires-4
-settle-requires-4 c κs = search needs
-
-enum-told-5 : tie.Need-enum-told-5
-enum-told-5 c = search needs
 
 attempt-requires : tie.Need-attempt-requires
 attempt-requires c κs = search needs
@@ -79,17 +79,17 @@ returns-4 c = c .settle3 .ensures ∙ found (c .before .before .before) Ahead (c
 
 returns-5 : tie.Need-returns-5
 unfolding settledOf servedOf
-returns-5 c = c .settle4 .ensures ∙ found (c .before .before .before) Repeated (c .before .enum-told4 .given .1)
+returns-5 c = c .again .ensures ∙ found (c .before .before .before .before) (Repeated _) (c .before .before .found .given .1)
 
 returns-6 : tie.Need-returns-6
 unfolding triedOf servedOf
-returns-6 c = c .attempt .ensures ∙ found (c .before .before .before) Next (c .before .enum-told5 .given .1)
+returns-6 c = c .attempt .ensures ∙ found (c .before .before .before) Next (c .before .enum-told4 .given .1)
 
 pub deliver-spec : {M : Type 1} → statement M
 deliver-spec =
     tie.close
     (tie.spec
-    fits-requires
+    remembers-requires
     broken-requires
     returns
     find-requires
@@ -99,9 +99,9 @@ deliver-spec =
     settle-requires-2
     enum-told-3
     settle-requires-3
+    enum-known-found
+    again-requires
     enum-told-4
-    settle-requires-4
-    enum-told-5
     attempt-requires
     returns-2
     returns-3

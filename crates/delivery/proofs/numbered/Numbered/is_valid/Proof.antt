@@ -2,8 +2,8 @@ use borrow.Author.Needs.{needs}
 use Rattle.delivery.proofs.numbered.Numbered.is_valid.Statement.{statement}
 use Rattle.delivery.proofs.numbered.Numbered.is_valid.Tie as tie
 
-fits-requires : tie.Need-fits-requires
-fits-requires c κs = search needs
+remembers-requires : tie.Need-remembers-requires
+remembers-requires c κs = search needs
 
 is-valid-requires : tie.Need-is-valid-requires
 is-valid-requires c κs = search needs
@@ -12,4 +12,4 @@ returns : tie.Need-returns
 returns c = cc
 
 pub is-valid-spec : {M : Type 1} → statement M
-is-valid-spec = tie.close (tie.spec fits-requires is-valid-requires returns)
+is-valid-spec = tie.close (tie.spec remembers-requires is-valid-requires returns)

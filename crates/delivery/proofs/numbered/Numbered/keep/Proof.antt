@@ -1,12 +1,19 @@
+use mathlib.Core.Path.{ap, _∙_}
+use mir.Facts.{toZ-ofZ}
+use Rattle.pid.proofs.Fit.{loop-fit}
+use Rattle.memory.specs.declared.Memory.{Memory}
+use Rattle.delivery.specs.declared.numbered.Numbered.{Numbered}
 use borrow.Author.Needs.{needs}
 use Rattle.delivery.proofs.numbered.Numbered.keep.Statement.{statement}
 use Rattle.delivery.proofs.numbered.Numbered.keep.Tie as tie
 
-of-requires : tie.Need-of-requires
-of-requires c κs = search needs
+remember-requires : tie.Need-remember-requires
+remember-requires c κs = search needs
 
 returns : tie.Need-returns
-returns c = cc
+returns c =
+    let s = c .before .before .before in
+    ap (λ (m : Memory). record { state = s .args .state; memory = m }) (c .remember .ensures ∙ rw (toZ-ofZ (loop-fit (s .args .state) (s .good .1 .0) .u)))
 
 pub keep-spec : {M : Type 1} → statement M
-keep-spec = tie.close (tie.spec of-requires returns)
+keep-spec = tie.close (tie.spec remember-requires returns)

@@ -14,23 +14,23 @@ use Rattle.delivery.proofs.numbered.Numbered.replay.Statement.{statemen
 use Rattle.delivery.proofs.numbered.Numbered.replay.Tie as tie
 
 -- where the call started, and what it was given
-abbrev start : tie.After-fits2 → tie.Start
-start f = f .before .before
+abbrev start : tie.After-remembers → tie.Start
+start f = f .before
 
-abbrev s : tie.After-fits2 → Numbered
+abbrev s : tie.After-remembers → Numbered
 s f = start f .args .self
 
-abbrev first : tie.After-fits2 → ℕ
+abbrev first : tie.After-remembers → ℕ
 first f = start f .args .first
 
-abbrev pvs : tie.After-fits2 → List ℤ
+abbrev pvs : tie.After-remembers → List ℤ
 pvs f = start f .args .samples .now
 
-abbrev out : tie.After-fits2 → List ℤ
+abbrev out : tie.After-remembers → List ℤ
 out f = start f .args .out .now
 
-fits-requires : tie.Need-fits-requires
-fits-requires c κs = search needs
+remembers-requires : tie.Need-remembers-requires
+remembers-requires c κs = search needs
 
 refused-requires : tie.Need-refused-requires
 refused-requires c κs = search needs
@@ -38,7 +38,7 @@ refused-requires c κs = search needs
 returns : tie.Need-returns
 returns c =
     let f = c .before .before in
-    let b = broken (s f) (first f) (pvs f) (out f) (so (f .fits2 .ensures) (not-true (f .fits2 .result) (c .before .if1 .taken))) in
+    let b = broken (s f) (first f) (pvs f) (out f) (so (f .remembers .ensures) (not-true (f .remembers .result) (c .before .if1 .taken))) in
     (c .refused .ensures ∙ b .0, b .1)
 
 stopped-requires : tie.Need-stopped-requires
@@ -47,7 +47,7 @@ stopped-requires c κs = search needs
 returns-2 : tie.Need-returns-2
 returns-2 c =
     let f = c .before .before .before in
-    let b = stops-1 (s f) (first f) (pvs f) (out f) (so (f .fits2 .ensures) (not-false (f .fits2 .result) (c .before .before .if1 .left))) (c .before .if2 .taken) in
+    let b = stops-1 (s f) (first f) (pvs f) (out f) (so (f .remembers .ensures) (not-false (f .remembers .result) (c .before .before .if1 .left))) (c .before .if2 .taken) in
     (c .stopped .ensures ∙ b .0, b .1)
 
 sub-if3 : tie.Need-sub-if3
@@ -59,7 +59,7 @@ stopped-requires-2 c κs = search needs
 returns-3 : tie.Need-returns-3
 returns-3 c =
     let f = c .before .before .before .before in
-    let b = stops-3 (s f) (first f) (pvs f) (out f) (so (f .fits2 .ensures) (not-false (f .fits2 .result) (c .before .before .before .if1 .left))) (c .before .before .if2 .left) (omega arith) in
+    let b = stops-3 (s f) (first f) (pvs f) (out f) (so (f .remembers .ensures) (not-false (f .remembers .result) (c .before .before .before .if1 .left))) (c .before .before .if2 .left) (omega arith) in
     (c .stopped2 .ensures ∙ b .0, b .1)
 
 stopped-requires-3 : tie.Need-stopped-requires-3
@@ -68,7 +68,7 @@ stopped-requires-3 c κs = search needs
 returns-4 : tie.Need-returns-4
 returns-4 c =
     let f = c .before .before .before .before .before in
-    let b = stops-12 (s f) (first f) (pvs f) (out f) (so (f .fits2 .ensures) (not-false (f .fits2 .result) (c .before .before .before .before .if1 .left))) (c .before .before .before .if2 .left) (omega arith) (c .before .if4 .taken) in
+    let b = stops-12 (s f) (first f) (pvs f) (out f) (so (f .remembers .ensures) (not-false (f .remembers .result) (c .before .before .before .before .if1 .left))) (c .before .before .before .if2 .left) (omega arith) (c .before .if4 .taken) in
     (c .stopped3 .ensures ∙ b .0, b .1)
 
 sub-left : tie.Need-sub-left
@@ -83,14 +83,14 @@ stopped-requires-4 c κs = search needs
 returns-5 : tie.Need-returns-5
 returns-5 c =
     let f = c .before .before .before .before .before .before in
-    let b = stops-13 (s f) (first f) (pvs f) (out f) (so (f .fits2 .ensures) (not-false (f .fits2 .result) (c .before .before .before .before .before .if1 .left))) (c .before .before .before .before .if2 .left) (omega arith) (c .before .before .if4 .left) (c .before .if5 .taken) in
+    let b = stops-13 (s f) (first f) (pvs f) (out f) (so (f .remembers .ensures) (not-false (f .remembers .result) (c .before .before .before .before .before .if1 .left))) (c .before .before .before .before .if2 .left) (omega arith) (c .before .before .if4 .left) (c .before .if5 .taken) in
     (c .stopped4 .ensures ∙ b .0, b .1)
 
 replayed-requires : tie.Need-replayed-requires
 replayed-requires c κs =
     let b = c .before in
     let f = b .before .before .before .before .before in
-    (so (f .fits2 .ensures) (not-false (f .fits2 .result) (b .before .before .before .before .if1 .left)), b .before .if4 .left, b .if5 .left)
+    (so (f .remembers .ensures) (not-false (f .remembers .result) (b .before .before .before .before .if1 .left)), b .before .if4 .left, b .if5 .left)
 
 same-length : tie.Need-same-length
 same-length c = search needs
@@ -106,7 +106,7 @@ pub replay-spec : {M : Type 1} → statement M
 replay-spec =
     tie.close
     (tie.spec
-    fits-requires
+    remembers-requires
     refused-requires
     returns
     stopped-requires
