@@ -1,4 +1,5 @@
--- A replay from a loop made of settings' values: automatic, with a gain set and a target, after a sample and perhaps a hold.
+-- A replay from a loop made of settings' values: automatic, with a gain set and a target, after a sample and perhaps a hold. And a
+-- delivery after a replay, from a loop that remembers what it is told to.
 use Prim.Native.Nat.{ℕ}
 use mathlib.Core.Bool.{cond}
 use mathlib.Core.List.{List}
@@ -10,7 +11,9 @@ use Rattle.settings.specs.declared.Settings.{Settings}
 use Rattle.settings.specs.Table.{lines}
 use Rattle.settings.specs.Settings.{settingsOf}
 use Rattle.command.specs.declared.Command.the-variants.{Sample, Hold, Automatic, Set, Target}
+use Rattle.memory.specs.Memory.{noMemory, filledOf}
 use Rattle.delivery.specs.declared.numbered.Numbered.{Numbered}
+use Rattle.delivery.specs.declared.numbered.Delivered.{Delivered}
 use Rattle.delivery.specs.Numbered.{madeOf, deliveredOf}
 use Rattle.delivery.specs.Replay.{replayedOf, writtenOf}
 
@@ -45,3 +48,30 @@ placeOf values set target before held first samples room =
 unfoldable pub outOf : List ℤ → ℤ → ℤ → ℤ → ℤ → ℕ → List ℤ → List ℤ → List ℤ
 outOf values set target before held first samples out =
     cond (eqb (length values) lines) (writtenOf (readyOf (settingsOf values) set target before held) first samples out) out
+
+-- ---- a late delivery
+
+-- the automatic loop with a last number, and samples, oldest first, each with the output at its place
+abbrev pub rememberingOf : Settings → ℕ → List ℤ → List ℤ → Numbered
+rememberingOf s last earlier answered = record { state = automaticOf s .state; memory = filledOf noMemory last earlier answered }
+
+-- samples are replayed, and then one is delivered
+abbrev pub lateOf : Numbered → ℕ → List ℤ → ℕ → ℕ → ℤ → Delivered
+lateOf start first samples room number value = deliveredOf (replayedOf start first samples room .state) number (Sample value)
+
+-- 11, 0 and 0 for a list that has not as many values as settings have, else the answer of that delivery
+unfoldable pub lateCode : List ℤ → ℕ → List ℤ → List ℤ → ℕ → List ℤ → ℕ → ℕ → ℤ → ℤ
+lateCode values last earlier answered first samples room number value =
+    cond (eqb (length values) lines) (pos (lateOf (rememberingOf (settingsOf values) last earlier answered) first samples room number value .code)) (pos 11)
+
+unfoldable pub lateOutput : List ℤ → ℕ → List ℤ → List ℤ → ℕ → List ℤ → ℕ → ℕ → ℤ → ℤ
+lateOutput values last earlier answered first samples room number value =
+    cond (eqb (length values) lines) (lateOf (rememberingOf (settingsOf values) last earlier answered) first samples room number value .output) (pos 0)
+
+unfoldable pub lateNumber : List ℤ → ℕ → List ℤ → List ℤ → ℕ → List ℤ → ℕ → ℕ → ℤ → ℕ
+lateNumber values last earlier answered first samples room number value =
+    cond (eqb (length values) lines) (lateOf (rememberingOf (settingsOf values) last earlier answered) first samples room number value .number) 0
+
+unfoldable pub lateOut : List ℤ → ℕ → List ℤ → List ℤ → ℕ → List ℤ → List ℤ → List ℤ
+lateOut values last earlier answered first samples out =
+    cond (eqb (length values) lines) (writtenOf (rememberingOf (settingsOf values) last earlier answered) first samples out) out
