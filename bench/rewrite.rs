@@ -1,7 +1,7 @@
 //! A replay as an engineer would write it in ordinary Rust: the record by `&mut`, one pass for the samples that are refused, one
-//! for the law; the mean by a running sum and a division, and the window written once, at the end. Numbers are 64 bits wide within
-//! the record, which is the faster of the two ways, but for raw temperatures. It is what the proved replay is measured against, and
-//! stays as it is.
+//! for the law; the mean by a running sum and a division; the window and the kept commands written once, at the end. Numbers are 64
+//! bits wide within the record, which is the faster of the two ways, but for raw temperatures. It is what the proved replay is measured
+//! against, and stays as it is.
 
 pub const F: i64 = 65_536;
 pub const B: i64 = 16_842_752_000_000;
@@ -16,6 +16,9 @@ pub const VALUES: usize = ONCE + GAINS * SETS;
 pub const MEAN: usize = 6;
 pub const JUMP: usize = 7;
 pub const WINDOW: usize = 128;
+
+/// The kept commands that a loop remembers.
+pub const REMEMBERED: usize = 32;
 
 /// Temperatures lie in -REACH..=REACH.
 const REACH: i32 = 1_000_000;
@@ -56,6 +59,14 @@ pub enum Command {
     Set(i32),
 }
 
+/// A kept command with the output that it was answered.
+#[allow(dead_code)]
+#[derive(Clone, Copy)]
+pub struct Kept {
+    pub command: Command,
+    pub output: i32,
+}
+
 #[allow(dead_code)]
 #[derive(Clone, Copy)]
 pub struct Loop {
@@ -74,7 +85,7 @@ pub struct Loop {
     pub seen: usize,
     pub raw: i32,
     pub number: u32,
-    pub last: Option<Command>,
+    pub kept: [Option<Kept>; REMEMBERED],
 }
 
 /// The earliest sample that is refused: 4 out of range, 19 further than the jump from the one before.
@@ -126,6 +137,11 @@ impl Loop {
     /// A fresh loop of settings whose values stand in the order of the text, automatic, with a gain set and a target.
     pub fn new(values: &[i32; VALUES], set: usize, target: i32) -> Loop {
         let settings = Settings::new(values);
+        let mut kept = [None; REMEMBERED];
+        let commands = [Command::Target(target, values[5]), Command::Set(set as i32), Command::Automatic];
+        for (place, command) in kept.iter_mut().zip(commands) {
+            *place = Some(Kept { command, output: values[3] });
+        }
         Loop {
             settings,
             automatic: true,
@@ -142,7 +158,7 @@ impl Loop {
             seen: 0,
             raw: 0,
             number: 3,
-            last: Some(Command::Target(target, values[5])),
+            kept,
         }
     }
 
@@ -192,6 +208,17 @@ impl Loop {
         };
     }
 
+    /// The memory has the last kept samples with their outputs, newest first.
+    fn remember(&mut self, samples: &[i32], out: &[i32]) {
+        let taken = samples.len().min(REMEMBERED);
+        self.kept.copy_within(..REMEMBERED - taken, taken);
+        let newest_first = samples.iter().zip(&out[..samples.len()]).rev();
+        for (place, (pv, u)) in self.kept.iter_mut().zip(newest_first) {
+            *place = Some(Kept { command: Command::Sample(*pv), output: *u });
+        }
+        self.number += samples.len() as u32;
+    }
+
     /// The window holds the last samples, newest first.
     fn keep(&mut self, samples: &[i32]) {
         let taken = samples.len().min(WINDOW);
@@ -235,10 +262,9 @@ impl Loop {
             *u = self.sample(mean(sum, count as i32));
         }
         self.keep(samples);
+        self.remember(samples, out);
         if let Some(pv) = samples.last() {
             self.raw = *pv;
-            self.number += samples.len() as u32;
-            self.last = Some(Command::Sample(*pv));
         }
         Ok(())
     }

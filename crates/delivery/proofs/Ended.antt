@@ -11,7 +11,6 @@ use lib.ListN.{length}
 use lib.Seq.{take-all}
 use Rattle.whole.proofs.Truth.{never, and, both, by-test}
 use Rattle.whole.proofs.Parts.{eqZ-yes}
-use Rattle.command.specs.declared.Command.{Command}
 use Rattle.pid.specs.declared.record.Loop.{Loop}
 use Rattle.pid.specs.Record.{valid}
 use Rattle.pid.specs.Law.{refusalOf, stepOf}

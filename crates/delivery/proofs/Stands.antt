@@ -1,7 +1,7 @@
 -- A loop with its memory is an engine of the plain law: one delivery to the record that stands where a walk stands.
 use Prim.Native.Nat.{ℕ, zero, suc, _+_, _-_, _≤_, _<_}
 use mathlib.Core.Path.{_≡_, refl, sym, ap, ap₂, _∙_, subst}
-use mathlib.Core.Bool.{Bool, true, false, cond}
+use mathlib.Core.Bool.{true, false, cond}
 use mathlib.Core.List.{List, [], _∷_}
 use native.Mathlib.Omega.{arith}
 use borrow.Author.Tests.{eqb-true, eqb-false, ltb-true, ltb-false, leb-true, leb-false, eq-eqb, lt-ltb}
@@ -11,7 +11,6 @@ use lib.ListN.{length, take, getD}
 use Rattle.whole.specs.Numbers.{inside}
 use Rattle.whole.proofs.Truth.{and, by-test, cond-yes, cond-no, push}
 use Rattle.settings.specs.declared.Settings.{Settings}
-use Rattle.pid.specs.declared.record.Loop.{Loop}
 use Rattle.command.specs.Command.{same}
 use Rattle.pid.specs.Record.{valid}
 use Rattle.pid.specs.Law.{refusalOf, stepOf}

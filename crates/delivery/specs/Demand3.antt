@@ -20,7 +20,7 @@ use Rattle.memory.specs.declared.Last.{Last}
 use Rattle.memory.specs.declared.Last.the-variants.{Nothing, Kept as Last·Kept}
 use Rattle.memory.specs.declared.Entry.{Entry}
 use Rattle.memory.specs.Memory.{window, entryOf, newest}
-use Rattle.memory.specs.Walk.{Law, Delivery, Answer, Kept, Walk, start, onward, answerTo, kept}
+use Rattle.memory.specs.Walk.{Law, Delivery, Answer, Kept, Walk, onward, answerTo, kept}
 use Rattle.delivery.specs.declared.numbered.Numbered.{Numbered}
 use Rattle.delivery.specs.declared.numbered.Delivered.{Delivered}
 use Rattle.delivery.specs.Numbered.{recordOf, deliveredOf}
@@ -48,9 +48,6 @@ answered s d = answerIn (deliveredOf s (d .number) (d .command))
 abbrev pub handedBack : Numbered → Delivery Command → Numbered
 handedBack s d = deliveredOf s (d .number) (d .command) .state
 
-abbrev pub keptFrom : Loop → List (Delivery Command) → List Command
-keptFrom l ds = kept plain window (start plain window l) ds
-
 -- kept commands "with the output each was answered", oldest first
 abbrev pub keptEntries : Loop → List Command → List Entry
 keptEntries l cs = each stepOf (λ (m : Loop) (c : Command). entryOf c (stepOf m c .u)) l cs
@@ -61,15 +58,15 @@ abbrev pub afterKept : Numbered → List Command → Numbered
 afterKept s cs =
     recordOf (after stepOf (s .state) cs) (s .memory .number + length cs) (take window (newest (s .memory .entries) (keptEntries (s .state) cs)))
 
--- DEMAND 3 of the deliveries ds to a record s
-pub record Demand3 (s : Numbered) (ds : List (Delivery Command)) : Type 0 where
+-- DEMAND 3 of the deliveries ds to a record s, by the walk from w on
+pub record Demand3 (s : Numbered) (w : Walk plain) (ds : List (Delivery Command)) : Type 0 where
   -- "The end state is the law's after the kept commands, each given once."
-  pub end-state : after handedBack s ds ≡ afterKept s (keptFrom (s .state) ds)
+  pub end-state : after handedBack s ds ≡ afterKept s (kept plain window w ds)
   -- "A kept delivery gets the law's output, an exact repeat of [any of the last 32] gets that same answer, and every other gets its
   -- named refusal."
-  pub answers : each handedBack answered s ds ≡ each (onward plain window) (answerTo plain window) (start plain window (s .state)) ds
+  pub answers : each handedBack answered s ds ≡ each (onward plain window) (answerTo plain window) w ds
 
--- ---- from any record that keeps the state rules, also one never reached
+-- ---- where a walk stands that has come to a record that keeps the state rules, also to one never reached
 
 -- an entry of number m as a kept delivery with its answer, before those that are older
 abbrev pub recalledBy : Last → ℤ → ℕ → List (Kept plain) → List (Kept plain)
@@ -82,7 +79,6 @@ unfoldable pub recalled : ℕ → List Entry → List (Kept plain)
 recalled m [] = []
 recalled m (e ∷ es) = recalledBy (e .command) (e .output) m (recalled (m - 1) es)
 
--- where a walk stands that has come to s
 abbrev pub standing : Numbered → Walk plain
 standing s = record { state = s .state; count = s .memory .number; recent = recalled (s .memory .number) (s .memory .entries) }
 

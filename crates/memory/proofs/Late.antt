@@ -7,11 +7,10 @@ use mathlib.Core.List.{List, [], _∷_}
 use native.Mathlib.Omega.{arith}
 use borrow.Author.Tests.{eq-eqb, ne-eqb, leb-true, leb-false, ltb-false}
 use lib.Dec.{eqb, ltb, leb}
-use lib.ListN.{length, take}
+use lib.ListN.{take}
 use Rattle.whole.proofs.Truth.{never, and, by-test, cond-yes, cond-no, zero-else}
 use Rattle.command.specs.Sequence.{after}
-use Rattle.memory.specs.Walk.{Law, Answer, Kept, Walk, keeps, keptAnswer, repeatAnswer, keeping, namedRefusal, refusedAnswer, answerTo, onward, kept}
-use Rattle.memory.proofs.Order.{neither}
+use Rattle.memory.specs.Walk.{Law, Answer, Kept, Walk, keeps, keptAnswer, repeatAnswer, keeping, namedRefusal, refusedAnswer, answerTo, onward}
 use Rattle.memory.proofs.Walked.{Sent, Runs, not-this, above-all, refusing, number-next, runs-more, still-runs, walked-count, Engine, still-ruled, ends, one-answer}
 
 -- ---- what is found stays found

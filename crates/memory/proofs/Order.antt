@@ -11,7 +11,6 @@ use Rattle.command.specs.declared.Command.{Command}
 use Rattle.command.proofs.Same.{same-equal, same-self}
 use Rattle.memory.specs.declared.Last.{Last}
 use Rattle.memory.specs.declared.Last.the-variants.{Nothing, Kept}
-use Rattle.memory.specs.declared.Entry.{Entry}
 use Rattle.memory.specs.declared.Memory.{Memory}
 use Rattle.memory.specs.declared.Found.{Found}
 use Rattle.memory.specs.declared.Found.the-variants.{Old, Reused, Repeated, Ahead, Next}

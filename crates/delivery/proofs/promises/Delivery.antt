@@ -3,7 +3,6 @@
 use Prim.Native.Nat.{ℕ, _+_}
 use mathlib.Core.Path.{_≡_, refl, sym, ap, ap₂, _∙_}
 use mathlib.Core.Bool.{Bool, true, false, _&&_}
-use mathlib.Core.List.{List}
 use borrow.Author.Tests.{eqb-true, eq-eqb}
 use lib.Dec.{eqb}
 use lib.IntN.{pos}
@@ -16,20 +15,16 @@ use Rattle.command.specs.declared.Command.{Command}
 use Rattle.pid.specs.Units.{fine}
 use Rattle.pid.specs.Record.{inB, valid}
 use Rattle.pid.specs.Law.{refusalOf, stepOf}
-use Rattle.command.specs.Sequence.{after}
 use Rattle.window.specs.Window.{freshWindow, windowOk}
 use Rattle.pid.proofs.Sound.{holds-of}
 use Rattle.pid.proofs.promises.Demand1 as law
 use Rattle.memory.specs.Memory.{window, memoryOk as Memory·memoryOk}
 use Rattle.memory.proofs.Rules.{no-memory-ok}
-use Rattle.memory.specs.Walk.{Delivery}
 use Rattle.delivery.specs.declared.numbered.Numbered.{Numbered}
 use Rattle.delivery.specs.declared.numbered.Delivered.{Delivered}
 use Rattle.delivery.specs.Numbered.{newOf, madeOf, blankOf, memoryOk, validOf, answerOf, keptOf, deliveredOf}
-use Rattle.delivery.specs.Demand3.{handedBack, afterKept, keptOn}
 use Rattle.delivery.specs.Bench.{atLimit}
 use Rattle.delivery.proofs.Served.{by-delivery, kept-one, kept-twice, delivered-valid}
-use Rattle.delivery.proofs.Ended.{end-from}
 
 -- "Every loop the software makes keeps them"
 pub made-valid : (s : Settings) → madeOf s .code ≡ 0 → validOf (madeOf s .state) ≡ true
@@ -89,10 +84,6 @@ second-writes-nothing s n c =
     kept-twice s n c v (eqb-true n (s .memory .number + 1) (b .0)) (eqb-true (refusalOf (s .state) c) 0 (b .1)))
     (λ e. ap (λ (x : Numbered). deliveredOf x n c) (other-leaves s n c (λ p q. never (sym e ∙ and (eq-eqb n (s .memory .number + 1) p) (eq-eqb (refusalOf (s .state) c) 0 q))))))
     (λ v. ap (λ (r : Delivered). deliveredOf (r .state) n c) (broken-ten s n c v))
-
--- the end state after a list, from any record that keeps the rules: the law's after the kept commands, the count, the last 32
-pub end-state : (s : Numbered) (ds : List (Delivery Command)) → validOf s ≡ true → after handedBack s ds ≡ afterKept s (keptOn s ds)
-end-state s ds v = end-from s v ds
 
 -- a record that keeps the state rules and is never reached: automatic, with nothing kept
 pub never-reached : validOf (newOf (atLimit 0 (fine 900 0))) ≡ true

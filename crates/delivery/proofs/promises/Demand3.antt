@@ -1,11 +1,10 @@
 -- DEMAND 3. Its sentences and the statement `Demand3` stand together in specs/Demand3.antt, the walk in memory/specs/Walk.antt;
 -- here it is shown.
-use Prim.Native.Nat.{ℕ, zero, suc}
-use mathlib.Core.Path.{_≡_, refl, sym, ap, subst, _∙_}
+use mathlib.Core.Path.{_≡_, refl, subst}
 use mathlib.Core.Bool.{true}
 use mathlib.Core.List.{List, [], _∷_, map}
 use lib.IntN.{pos, _+ℤ_}
-use lib.ListN.{take, replicate}
+use lib.ListN.{take}
 use Rattle.settings.specs.declared.Settings.{Settings}
 use Rattle.settings.specs.Table.{rowsOf}
 use Rattle.settings.specs.Settings.{inTable}
@@ -16,47 +15,34 @@ use Rattle.temperature.specs.Temperature.{codeOf}
 use Rattle.pid.specs.Units.{rounded}
 use Rattle.settings.specs.SettingsC.{settingsC}
 use Rattle.command.specs.Command.{same}
-use Rattle.pid.specs.Record.{freshOf, valid, madeOf as Loop·madeOf}
+use Rattle.pid.specs.Record.{freshOf, madeOf as Loop·madeOf}
 use Rattle.pid.specs.Sample.{lesser, greater, limited, ramped, filtered, derivative, sensedOf, clamped, backCalculated, integrated, actedOf}
 use Rattle.pid.specs.Law.{sampleOf, stepOf, refusalOf}
-use Rattle.command.specs.Sequence.{after, each}
+use Rattle.command.specs.Sequence.{after}
 use Rattle.pid.specs.Run.{unbroken, shares}
 use Rattle.command.proofs.Same.{same-equal, same-self}
-use Rattle.pid.proofs.promises.Demand1.{made-valid}
-use Rattle.memory.specs.declared.Entry.{Entry}
-use Rattle.memory.specs.Memory.{window, noEntry}
-use Rattle.memory.specs.Walk.{Delivery, start, kept}
-use Rattle.memory.proofs.Walked.{runs-start, all-answers}
+use Rattle.memory.specs.Memory.{window}
+use Rattle.memory.specs.Walk.{Delivery, Walk, start, kept}
 use Rattle.delivery.specs.declared.numbered.Numbered.{Numbered}
-use Rattle.delivery.specs.Numbered.{recordOf, newOf, madeOf, validOf}
-use Rattle.delivery.specs.Demand3.{plain, answered, handedBack, afterKept, keptFrom, Demand3, keptOn}
+use Rattle.delivery.specs.Numbered.{newOf, madeOf, validOf}
+use Rattle.delivery.specs.Demand3.{plain, handedBack, Demand3, recalled, standing, keptOn}
 use Rattle.delivery.specs.Bench.{Row, log}
-use Rattle.delivery.proofs.Stands.{places, standsAt, Good, numbered}
-use Rattle.delivery.proofs.Ended.{end-after, delivered-shares}
+use Rattle.delivery.proofs.Ended.{end-from, answers-from, delivered-shares}
+use Rattle.delivery.proofs.promises.Delivery.{made-valid}
 
-blank-places : (n : ℕ) → places n [] ≡ replicate n noEntry
-unfolding places
-blank-places zero = refl
-blank-places (suc n) = ap (λ (es : List Entry). noEntry ∷ es) (blank-places n)
+-- from any record that keeps the state rules, also one never reached: the walk goes on from where it stands
+pub demand-3-on : (s : Numbered) → validOf s ≡ true → (ds : List (Delivery Command)) → Demand3 s (standing s) ds
+demand-3-on s v ds = record { end-state = end-from s v ds; answers = answers-from s v ds }
 
--- of any loop that keeps its state rules, with nothing delivered yet
-new-demand : (l : Loop) (ds : List (Delivery Command)) → valid l ≡ true → Demand3 (newOf l) ds
-new-demand l ds v =
-    let w = start plain window l in
-    let g : Good w = record { rules = v; outputs = refl } in
-    let e : standsAt w ≡ newOf l = ap (recordOf l 0) (blank-places window) in
-    record {
-      end-state =
-          ap (λ (s : Numbered). after handedBack s ds) (sym e)
-          ∙ end-after w ds g (runs-start plain window)
-          ∙ ap (λ (s : Numbered). afterKept s (keptFrom l ds)) e;
-      answers =
-          ap (λ (s : Numbered). each handedBack answered s ds) (sym e) ∙ all-answers plain window numbered w ds g (runs-start plain window);
-    }
+-- a walk that has come to a loop with nothing kept is at its start
+at-start : (l : Loop) → standing (newOf l) ≡ start plain window l
+unfolding window recalled
+at-start l = refl
 
 -- "Start a loop from accepted settings and deliver any list at all"
-pub demand-3 : (s : Settings) → madeOf s .code ≡ 0 → (ds : List (Delivery Command)) → Demand3 (madeOf s .state) ds
-demand-3 s e ds = new-demand (Loop·madeOf s .state) ds (made-valid s e)
+pub demand-3 : (s : Settings) → madeOf s .code ≡ 0 → (ds : List (Delivery Command)) → Demand3 (madeOf s .state) (start plain window (madeOf s .state .state)) ds
+demand-3 s e ds =
+    subst (λ (w : Walk plain). Demand3 (madeOf s .state) w ds) (at-start (madeOf s .state .state)) (demand-3-on (madeOf s .state) (made-valid s e) ds)
 
 -- "Over an unbroken run of kept ordinary automatic samples within limits, the integral moves by exactly the sum of gain times
 -- error, one share for each sample": from any record that keeps the state rules, over any list of deliveries. Repeats, gaps,
@@ -78,7 +64,7 @@ accepted-C = refl
 
 -- of the bench log's fourteen deliveries the walk keeps ten: not the repeat, the reused number, the gap and the refused put
 pub bench-kept :
-    keptFrom (freshOf settingsC) (map (λ (r : Row). record { number = r .number; command = r .command }) (take 14 log))
+    kept plain window (start plain window (freshOf settingsC)) (map (λ (r : Row). record { number = r .number; command = r .command }) (take 14 log))
     ≡ Sample (pos 480)
     ∷ Automatic
     ∷ Sample (pos 480)

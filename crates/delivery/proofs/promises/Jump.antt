@@ -18,7 +18,7 @@ use Rattle.settings.specs.SettingsC.{settingsWith}
 use Rattle.temperature.specs.Temperature.{codeOf, firstBad, firstCode}
 use Rattle.window.specs.Window.{freshWindow, windowOk}
 use Rattle.command.specs.declared.Command.{Command}
-use Rattle.command.specs.declared.Command.the-variants.{Sample, Automatic, Target}
+use Rattle.command.specs.declared.Command.the-variants.{Sample, Target}
 use Rattle.command.specs.Sequence.{after}
 use Rattle.command.proofs.Sequences.{after-append}
 use Rattle.pid.specs.declared.record.Loop.{Loop}

@@ -1,4 +1,3 @@
-use mathlib.Core.Path.{_∙_}
 use mir.Facts.{toZ-ofZ}
 use borrow.Author.Needs.{needs}
 use Rattle.port.proofs.late.Statement.{statement}

@@ -1,5 +1,4 @@
 use mathlib.Core.Path.{_∙_}
-use native.Mathlib.Omega.{arith}
 use Rattle.memory.specs.Memory.{window}
 use Rattle.memory.proofs.Filled.{place-new, place-old}
 use borrow.Author.Needs.{needs}

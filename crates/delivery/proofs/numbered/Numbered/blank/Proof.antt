@@ -1,3 +1,5 @@
+use mathlib.Core.Path.{ap, _∙_}
+use Rattle.delivery.specs.Numbered.{newOf}
 use borrow.Author.Needs.{needs}
 use Rattle.delivery.proofs.numbered.Numbered.blank.Statement.{statement}
 use Rattle.delivery.proofs.numbered.Numbered.blank.Tie as tie
@@ -9,7 +11,7 @@ new-requires : tie.Need-new-requires
 new-requires c κs = search needs
 
 returns : tie.Need-returns
-returns c = cc
+returns c = c .new .ensures ∙ ap newOf (c .before .blank .ensures)
 
 pub blank-spec : {M : Type 1} → statement M
 blank-spec = tie.close (tie.spec blank-requires new-requires returns)

@@ -1,3 +1,5 @@
+use mathlib.Core.Path.{ap₂}
+use mathlib.Core.Bool.{Bool, _&&_}
 use borrow.Author.Needs.{needs}
 use Rattle.delivery.proofs.numbered.Numbered.is_valid.Statement.{statement}
 use Rattle.delivery.proofs.numbered.Numbered.is_valid.Tie as tie
@@ -9,7 +11,7 @@ is-valid-requires : tie.Need-is-valid-requires
 is-valid-requires c κs = search needs
 
 returns : tie.Need-returns
-returns c = cc
+returns c = ap₂ (λ (a b : Bool). a && b) (c .before .remembers .ensures) (c .is-valid .ensures)
 
 pub is-valid-spec : {M : Type 1} → statement M
 is-valid-spec = tie.close (tie.spec remembers-requires is-valid-requires returns)

@@ -2,7 +2,6 @@ use mathlib.Core.Path.{ap, _∙_}
 use mir.Facts.{toZ-ofZ}
 use Rattle.pid.proofs.Fit.{loop-fit}
 use Rattle.memory.specs.declared.Memory.{Memory}
-use Rattle.delivery.specs.declared.numbered.Numbered.{Numbered}
 use borrow.Author.Needs.{needs}
 use Rattle.delivery.proofs.numbered.Numbered.keep.Statement.{statement}
 use Rattle.delivery.proofs.numbered.Numbered.keep.Tie as tie
