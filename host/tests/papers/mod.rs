@@ -523,7 +523,8 @@ number=5 command=sample value=480 second=0 code=0 output=115 last=5
 number=5 command=sample value=480 second=0 code=0 output=115 last=5
 number=5 command=sample value=1000 second=0 code=2 output=115 last=5
 number=7 command=sample value=1000 second=0 code=3 output=115 last=5
-number=4 command=sample value=1000 second=0 code=1 output=115 last=5
+number=4 command=sample value=1000 second=0 code=2 output=115 last=5
+number=4 command=sample value=490 second=0 code=0 output=100 last=4
 number=6 command=set value=1 second=0 code=0 output=115 last=6
 number=7 command=sample value=491 second=0 code=19 output=115 last=6
 number=7 command=hold value=0 second=0 code=0 output=115 last=7
@@ -546,7 +547,8 @@ number=4 command=sample value=480 second=0 code=0 output=105 last=4
 number=4 command=sample value=480 second=0 code=0 output=105 last=4
 number=5 command=sample value=1000001 second=0 code=4 output=105 last=4
 number=6 command=sample value=400 second=0 code=3 output=105 last=4
-number=3 command=sample value=400 second=0 code=1 output=105 last=4
+number=3 command=sample value=400 second=0 code=2 output=105 last=4
+number=3 command=sample value=480 second=0 code=0 output=100 last=3
 number=4 command=sample value=400 second=0 code=2 output=105 last=4
 number=5 command=target value=500 second=50 code=0 output=105 last=5
 number=6 command=sample value=470 second=0 code=0 output=116 last=6
