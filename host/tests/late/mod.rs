@@ -10,19 +10,20 @@ use Command::{Automatic, Hold, Put, Sample, Set};
 pub type Answered = (Delivery, Answer);
 
 /// Commands of every kind that a fresh loop from C accepts, some of no effect, each under the number of
-/// its place from 1 on. After ten of them the kinds come again, with other values.
+/// its place from 1 on. After eleven of them the kinds come again, with other values.
 pub fn every_kind(count: usize) -> Vec<Command> {
     let of_round = |round: i32| {
         [
             Put(10 * round),
-            Hold,
+            Put(10 * round + 5),
             Sample(480 + round),
             Automatic,
             Sample(480 - round),
-            Set(round % 16),
             Sample(470 - round),
             Command::Target { target: 500 + round, rate: 50 - round },
             Sample(460),
+            Set(round % 16),
+            Hold,
             Hold,
         ]
     };
