@@ -442,8 +442,8 @@ pub fn deliveries(rng: &mut Rng, settings: &Settings, count: usize) -> Vec<Deliv
     list(rng, settings, count, delivery_after)
 }
 
-/// The same with a queue that retries: half of the list are kept commands under their own numbers, as
-/// far back as any other, and some are such with a value or the word changed.
+/// The same of a queue that retries: half of the list are kept commands under their own numbers, from
+/// the latest to 40 back, and some are such with a value or the word changed.
 pub fn retries(rng: &mut Rng, settings: &Settings, count: usize) -> Vec<Delivery> {
     list(rng, settings, count, |rng, record, kept| match rng.below(20) {
         0..=9 => late(rng, record, kept),
@@ -505,7 +505,7 @@ fn delivery_after(rng: &mut Rng, record: &Loop, kept: &[Command]) -> Delivery {
 /// loop remembers.
 const FURTHEST: usize = 40;
 
-/// A kept command under its own number, as far back as any other.
+/// A kept command under its own number; each distance is as likely.
 fn late(rng: &mut Rng, record: &Loop, kept: &[Command]) -> Delivery {
     back(record, kept, rng.below(FURTHEST + 1))
 }

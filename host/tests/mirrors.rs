@@ -286,7 +286,7 @@ fn lists_of_deliveries_mirror_from_a_fresh_loop() {
     in_both_mirrors(400, |mirror, rng| {
         let settings = gen::settings(rng);
         let fresh = Loop::make(&settings).1;
-        let mut pair = Pair::new(mirror, fresh, &mut halves).expect("no last command yet");
+        let mut pair = Pair::new(mirror, fresh, &mut halves).expect("nothing is remembered yet");
         assert_eq!(pair.other, Loop::make(&mirror.settings(&settings)).1);
         for next in gen::deliveries(rng, &settings, 300) {
             if let Some(code) = pair.deliver(&next) {

@@ -152,9 +152,9 @@ fn replaying(last: u32, count: usize) -> Call {
     Call { samples: (400..).take(count).collect(), ..remembering(last) }
 }
 
-/// Every number of this call from its latest to 40 back or 1, with the sample of it, with another, and with
-/// the sample of the next: "same number and values, gets its first answer again: code 0, that output and
-/// its own number. A number in that window with other values is 2; older is 1." The replay is kept whole.
+/// Every number of this call from its latest to 40 back or 1, with its own sample and with others: "same
+/// number and values, gets its first answer again: code 0, that output and its own number. A number in
+/// that window with other values is 2; older is 1." The replay is kept whole.
 fn every_distance(call: &Call) {
     let (_, outputs) = call.agrees();
     let count = call.samples.len() as u32;
