@@ -1,9 +1,9 @@
 //! 01, "Numbered delivery": the queue "delivers at least once", so that "every command carries a
-//! number, and a second delivery of it must write nothing".
+//! number, and a second delivery of it must write nothing". Request 6: it "may redeliver up to 32
+//! commands late".
 
 use crate::law::{Command, Loop};
-use crate::refusal::{code, Refusal};
-use std::cmp::Ordering;
+use crate::refusal::Refusal;
 
 /// A command under its number, as the queue hands it over.
 #[derive(Debug, Clone, Copy, PartialEq, Eq)]
@@ -15,14 +15,14 @@ pub struct Delivery {
 }
 
 /// "An answer is a code, the output in force and the last number in force, both read after the
-/// call."
+/// call." But a repeat "gets its first answer again: code 0, that output and its own number".
 #[derive(Debug, Clone, Copy, PartialEq, Eq)]
 pub struct Answer {
     /// 0, or 01's code of the refusal.
     pub code: i32,
-    /// The output in force.
+    /// The output in force, or that of the first answer.
     pub output: i32,
-    /// The last number in force.
+    /// The last number in force, or the repeat's own.
     pub last: u32,
 }
 
@@ -33,34 +33,34 @@ pub fn deliver(record: &mut Loop, number: u32, command: Command) -> Answer {
     if let Err(broken) = record.check() {
         return Answer { code: broken.code(), output: 0, last: 0 };
     }
-    let outcome = receive(record, number, command);
-    Answer { code: code(outcome), output: record.u, last: record.last }
+    receive(record, number, command).unwrap_or_else(|refusal| Answer {
+        code: refusal.code(),
+        output: record.u,
+        last: record.last,
+    })
 }
 
 /// Judges the number and, at last + 1, tries the law: "accepted, the number and command are
 /// remembered; refused, nothing is, and the number stays free".
-fn receive(record: &mut Loop, number: u32, command: Command) -> Result<(), Refusal> {
-    if number == 0 {
-        return Err(Refusal::OldNumber);
+fn receive(record: &mut Loop, number: u32, command: Command) -> Result<Answer, Refusal> {
+    if number <= record.last {
+        return repeat(record, number, command);
     }
-    match number.cmp(&record.last) {
-        Ordering::Less => Err(Refusal::OldNumber),
-        Ordering::Equal => repeat(record, command),
-        Ordering::Greater if number - record.last > 1 => Err(Refusal::NumberAhead),
-        Ordering::Greater => {
-            record.content(command)?;
-            record.step(command);
-            record.remember(number, command);
-            Ok(())
-        }
+    if number - record.last > 1 {
+        return Err(Refusal::NumberAhead);
     }
+    record.content(command)?;
+    record.keep(command);
+    Ok(Answer { code: 0, output: record.u, last: record.last })
 }
 
-/// "Number = last, at least 1, same command with same values: a repeat, code 0, present u, nothing
-/// changes."
-fn repeat(record: &Loop, command: Command) -> Result<(), Refusal> {
-    if record.last_command == Some(command) {
-        Ok(())
+/// Request 6: "A repeat of any of them, same number and values, gets its first answer again: code 0,
+/// that output and its own number. A number in that window with other values is 2; older is 1", and so
+/// is number 0.
+fn repeat(record: &Loop, number: u32, command: Command) -> Result<Answer, Refusal> {
+    let kept = record.memory.kept_under(number, record.last).ok_or(Refusal::OldNumber)?;
+    if kept.command == Some(command) {
+        Ok(Answer { code: 0, output: kept.output, last: number })
     } else {
         Err(Refusal::ReusedNumber)
     }

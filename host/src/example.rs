@@ -2,7 +2,8 @@
 //! whose outputs show a half at each place that rounds.
 
 use crate::by_hand::PLACES;
-use crate::law::Loop;
+use crate::law::{Command, Loop};
+use crate::memory::REMEMBERED;
 use crate::settings::{GainSet, Settings, SETS};
 
 /// "Settings C, whole": with requests 5, 7 and 8 it is a text of the shortest form.
@@ -59,6 +60,15 @@ pub fn settings() -> Settings {
 /// "A fresh loop from C".
 pub fn fresh() -> Loop {
     Loop::make(&settings()).1
+}
+
+/// The same at another last number, which few loops reach: all that it remembers is this command, with
+/// the output in force.
+pub fn at_number(last: u32, command: Command) -> Loop {
+    let fresh = fresh();
+    let entries = REMEMBERED.min(last as usize);
+    let memory = (0..entries).map(|_| (command, fresh.u)).collect();
+    Loop { last, memory, ..fresh }
 }
 
 /// An oven with its samples and its outputs, worked out by hand, which would be others, were a half

@@ -7,6 +7,7 @@ use crate::delivery::{deliver, Delivery};
 use crate::form::Form;
 use crate::journal::delivery_line;
 use crate::law::{Command, Loop, Mode};
+use crate::memory::{Entry, Memory, REMEMBERED};
 use crate::rng::Rng;
 use crate::settings::{places, GainSet, Row, Settings, JUMP, LINES, MEAN, ROWS, SETS, WINDOW};
 
@@ -201,10 +202,15 @@ pub fn any_form(rng: &mut Rng, settings: &Settings) -> Vec<u8> {
 
 /// A record that keeps the state rules, though most of these are never reached.
 pub fn record(rng: &mut Rng) -> Loop {
+    let last = last_number(rng);
+    record_at(rng, last)
+}
+
+/// The same with this last number.
+pub fn record_at(rng: &mut Rng, last: u32) -> Loop {
     let settings = settings(rng);
     let automatic = rng.one_in(2);
     let primed = !rng.one_in(4);
-    let last = last_number(rng);
     let w = within32(rng, LEAST_PV, MOST_PV);
     let seen = seen(rng, &settings);
     let mut record = Loop {
@@ -223,13 +229,18 @@ pub fn record(rng: &mut Rng) -> Loop {
         seen,
         last_raw: if primed { last_raw(rng, w) } else { 0 },
         last,
-        last_command: None,
+        memory: Memory::BLANK,
     };
-    if last > 0 {
-        let command = command(rng, &record);
-        record.last_command = Some(command);
-    }
+    record.memory = memory(rng, &record);
     record
+}
+
+/// What a record at its last number remembers: commands that the law accepts or refuses, with outputs
+/// anywhere within the limits. No rule ties the newest of them to u.
+fn memory(rng: &mut Rng, record: &Loop) -> Memory {
+    let Settings { lo, hi, .. } = record.settings;
+    let entries = REMEMBERED.min(record.last as usize);
+    (0..entries).map(|_| (command(rng, record), within32(rng, lo, hi))).collect()
 }
 
 /// How many temperatures a record has seen: any number of them, often just enough for its mean, one
@@ -273,8 +284,7 @@ pub fn doubtful(rng: &mut Rng, record: &Loop) -> Loop {
 
 /// Changes one thing.
 fn spoil(rng: &mut Rng, record: &mut Loop) {
-    let Settings { lo, hi, .. } = record.settings;
-    match rng.below(19) {
+    match rng.below(24) {
         0 => record.settings = doubtful_settings(rng),
         1 => record.mode = Mode::Manual,
         2 => record.pending = !record.pending,
@@ -282,7 +292,7 @@ fn spoil(rng: &mut Rng, record: &mut Loop) {
         4 => record.w = outside32(rng, LEAST_PV, MOST_PV),
         5 => record.target = outside32(rng, LEAST_PV, MOST_PV),
         6 => record.rate = outside32(rng, 1, MOST_RATE),
-        7 => record.u = rng.pick(&[lo.saturating_sub(1), hi.saturating_add(1), i32::MIN, i32::MAX]),
+        7 => record.u = past_the_limits(rng, &record.settings),
         8 => record.integral = rng.pick(&[Loop::B + 1, -Loop::B - 1, i64::MIN, i64::MAX]),
         9 => record.y = rng.pick(&[Loop::Y + 1, -Loop::Y - 1, i64::MIN, i64::MAX]),
         10 => record.primed = !record.primed,
@@ -293,17 +303,39 @@ fn spoil(rng: &mut Rng, record: &mut Loop) {
         15 => record.settings.jump = outside32(rng, JUMP.least, JUMP.most),
         16 => record.last_raw = outside32(rng, LEAST_PV, MOST_PV),
         17 => record.last_raw = within32(rng, LEAST_PV, MOST_PV),
-        _ => record.last = 0,
+        18 => record.last = rng.pick(&[0, 1, 31, 32, u32::MAX]),
+        _ => spoil_memory(rng, record),
     }
 }
 
+/// An output that most of these settings do not allow.
+fn past_the_limits(rng: &mut Rng, settings: &Settings) -> i32 {
+    let (below, above) = (settings.lo.saturating_sub(1), settings.hi.saturating_add(1));
+    rng.pick(&[below, above, i32::MIN, i32::MAX])
+}
+
+/// Changes one place of what is remembered: its output, whether it has a command, or both.
+fn spoil_memory(rng: &mut Rng, record: &mut Loop) {
+    let past = past_the_limits(rng, &record.settings);
+    let place = &mut record.memory.0[rng.below(REMEMBERED)];
+    match rng.below(4) {
+        0 => place.output = past,
+        1 => place.command = None,
+        2 => place.command = Some(Command::Hold),
+        _ => *place = Entry::BLANK,
+    }
+}
+
+/// A last number: 0, few, about as many as a loop remembers commands, the most or some before, or any.
 fn last_number(rng: &mut Rng) -> u32 {
-    match rng.below(6) {
+    match rng.below(8) {
         0 => 0,
         1 => 1,
         2 => u32::MAX - 1,
         3 => u32::MAX,
         4 => u32::MAX - rng.below(40) as u32,
+        5 => rng.pick(&[31, 32, 33]),
+        6 => 1 + rng.below(40) as u32,
         _ => rng.bits() as u32,
     }
 }
@@ -404,37 +436,92 @@ fn in_range(pv: i32) -> i32 {
     pv.clamp(LEAST_PV, MOST_PV)
 }
 
-/// A list of deliveries from a fresh loop of these settings: every command, exact repeats, reused
-/// numbers, old numbers, number 0, gaps and bad values.
+/// A list of deliveries from a fresh loop of these settings: every command, repeats of the latest and
+/// late ones, reused numbers, old numbers, number 0, gaps and bad values.
 pub fn deliveries(rng: &mut Rng, settings: &Settings, count: usize) -> Vec<Delivery> {
+    list(rng, settings, count, delivery_after)
+}
+
+/// The same of a queue that retries: half of the list are kept commands under their own numbers, from
+/// the latest to 40 back, and some are such with a value or the word changed.
+pub fn retries(rng: &mut Rng, settings: &Settings, count: usize) -> Vec<Delivery> {
+    list(rng, settings, count, |rng, record, kept| match rng.below(20) {
+        0..=9 => late(rng, record, kept),
+        10 => reused(rng, record, kept),
+        _ => delivery_after(rng, record, kept),
+    })
+}
+
+/// Deliveries, each drawn for the loop that the ones before it have reached, and for the commands that
+/// it has kept, oldest first.
+fn list(
+    rng: &mut Rng,
+    settings: &Settings,
+    count: usize,
+    draw: impl Fn(&mut Rng, &Loop, &[Command]) -> Delivery,
+) -> Vec<Delivery> {
     let (_, mut record) = Loop::make(settings);
-    let mut list = Vec::with_capacity(count);
-    for _ in 0..count {
-        let next = delivery(rng, &record);
+    let mut kept = vec![];
+    let next = |_| {
+        let next = draw(rng, &record, &kept);
+        let before = record.last;
         deliver(&mut record, next.number, next.command);
-        list.push(next);
-    }
-    list
+        if record.last != before {
+            kept.push(next.command);
+        }
+        next
+    };
+    (0..count).map(next).collect()
 }
 
 /// A delivery for this record, in three cases of five under the next number.
 pub fn delivery(rng: &mut Rng, record: &Loop) -> Delivery {
+    let remembered: Vec<Command> =
+        record.memory.0.iter().rev().filter_map(|entry| entry.command).collect();
+    delivery_after(rng, record, &remembered)
+}
+
+/// The same for a record that has kept these commands, oldest first, up to its last number.
+fn delivery_after(rng: &mut Rng, record: &Loop, kept: &[Command]) -> Delivery {
     let last = u64::from(record.last);
-    let kept = record.last_command.unwrap_or(Command::Hold);
     let command = command(rng, record);
-    let (number, command) = match rng.below(30) {
-        0..=3 => (last, kept),
-        4 => (last, almost(rng, kept)),
-        5 => (last, command),
-        6 => (rng.bits() % (last + 1), command),
-        7 => (last.max(1) - 1, kept),
-        8 => (0, command),
-        9 => (last + 2, command),
-        10 => (rng.bits() % (1 << 32), command),
-        11 => (u64::from(u32::MAX), command),
-        _ => (last + 1, command),
-    };
-    Delivery { number: number.min(u64::from(u32::MAX)) as u32, command }
+    let under = |number: u64| Delivery { number: number.min(u64::from(u32::MAX)) as u32, command };
+    match rng.below(30) {
+        0 | 1 => back(record, kept, 0),
+        2 | 3 => late(rng, record, kept),
+        4 => reused(rng, record, kept),
+        5 => under(last.saturating_sub(rng.below(FURTHEST + 1) as u64)),
+        6 => under(rng.bits() % (last + 1)),
+        7 => Delivery { number: record.last.max(1) - 1, ..back(record, kept, 0) },
+        8 => under(0),
+        9 => under(last + 2),
+        10 => under(rng.bits() % (1 << 32)),
+        11 => under(u64::from(u32::MAX)),
+        _ => under(last + 1),
+    }
+}
+
+/// How far back a late command lies at most, counted from the latest: some are older than any that a
+/// loop remembers.
+const FURTHEST: usize = 40;
+
+/// A kept command under its own number; each distance is as likely.
+fn late(rng: &mut Rng, record: &Loop, kept: &[Command]) -> Delivery {
+    back(record, kept, rng.below(FURTHEST + 1))
+}
+
+/// The number of such a one with another command, which differs in little.
+fn reused(rng: &mut Rng, record: &Loop, kept: &[Command]) -> Delivery {
+    let Delivery { number, command } = late(rng, record, kept);
+    Delivery { number, command: almost(rng, command) }
+}
+
+/// The kept command so far back from the latest, or the first where that is nearer; before the first a
+/// hold under number 0.
+fn back(record: &Loop, kept: &[Command], distance: usize) -> Delivery {
+    let distance = distance.min(kept.len().saturating_sub(1));
+    let command = kept.iter().rev().nth(distance).copied().unwrap_or(Command::Hold);
+    Delivery { number: record.last - distance as u32, command }
 }
 
 /// A command that differs from this one in a single value, or in its word.

@@ -3,7 +3,7 @@
 //!
 //! A delivery is the line `number=N command=WORD value=V second=S`; its answer is the same line
 //! grown by `code=C output=U last=L`, "in that order, one space between, one line feed at the end,
-//! unused values 0".
+//! unused values 0". L is the number in the answer, which is a late repeat's own.
 
 use crate::decimal;
 use crate::delivery::{deliver, Answer, Delivery};

@@ -1,6 +1,7 @@
 //! 01, "What a loop remembers" and "The law, one command at a time", with the mean of request 7
-//! "ahead of the filter" and the refusal of a wild reading, request 8.
+//! "ahead of the filter", the refusal of a wild reading, request 8, and the memory of request 6.
 
+use crate::memory::Memory;
 use crate::refusal::Refusal;
 use crate::settings::{self, GainSet, Settings, WINDOW};
 use std::cmp::Ordering;
@@ -72,8 +73,9 @@ pub struct Loop {
     pub last_raw: i32,
     /// The last number kept, 0 before the first.
     pub last: u32,
-    /// The command kept under that number.
-    pub last_command: Option<Command>,
+    /// "the last 32 kept commands with the output each was answered", of which the newest has that
+    /// number.
+    pub memory: Memory,
 }
 
 /// round(x / F), to the nearest whole number. Request 3: "Halves shall go away from zero,
@@ -147,7 +149,7 @@ impl Loop {
             seen: 0,
             last_raw: 0,
             last: 0,
-            last_command: None,
+            memory: Memory::BLANK,
         }
     }
 
@@ -190,7 +192,7 @@ impl Loop {
             && self.window_in_order()
             && self.last_raw_in_order()
             && !(self.pending && self.mode == Mode::Manual)
-            && self.last_command.is_none() == (self.last == 0);
+            && self.memory.in_order(self.last, &self.limits());
         if kept {
             Ok(())
         } else {
@@ -269,7 +271,7 @@ impl Loop {
 /// The law itself, for a record that keeps the state rules and a command whose content is accepted.
 impl Loop {
     /// Carries the command out.
-    pub(crate) fn step(&mut self, command: Command) {
+    fn step(&mut self, command: Command) {
         match command {
             Command::Sample(raw) => self.sample(raw),
             Command::Hold => self.hold(),
@@ -283,10 +285,12 @@ impl Loop {
         }
     }
 
-    /// "accepted, the number and command are remembered"
-    pub(crate) fn remember(&mut self, number: u32, command: Command) {
-        self.last = number;
-        self.last_command = Some(command);
+    /// Carries it out under the next number: "accepted, the number and command are remembered", and
+    /// with them "the output [it] was answered", which is the one in force after it.
+    pub(crate) fn keep(&mut self, command: Command) {
+        self.step(command);
+        self.last += 1;
+        self.memory.take(command, self.u);
     }
 
     /// "Manual, not pending; u stays."
@@ -316,7 +320,7 @@ impl Loop {
 
     /// A sample, in the law's six steps. Request 7: "The law then reads the mean wherever 01 writes
     /// pv".
-    pub(crate) fn sample(&mut self, raw: i32) {
+    fn sample(&mut self, raw: i32) {
         self.take(raw);
         let pv = self.mean();
         self.ramp();

@@ -5,6 +5,7 @@ use crate::decimal;
 use crate::delivery::{Answer, Delivery};
 use crate::journal::{delivery_line, parse};
 use crate::law::{Command, Loop};
+use crate::memory::{Entry, Memory};
 use crate::settings::Settings;
 
 /// One of the request's two mirrors. In both, codes and numbers stay the same.
@@ -67,12 +68,8 @@ impl Mirror {
 
     /// "outputs and integral with the other sign; w, y as the request says. Last commands are
     /// mirrored too." The temperatures of the window and the last raw one are flipped where
-    /// "temperatures" are. None where the last command has no mirror.
+    /// "temperatures" are. None where a remembered command has no mirror.
     pub fn record(self, record: &Loop) -> Option<Loop> {
-        let last_command = match record.last_command {
-            Some(command) => Some(self.command(command)?),
-            None => None,
-        };
         Some(Loop {
             settings: self.settings(&record.settings),
             w: self.temperature(record.w),
@@ -82,9 +79,22 @@ impl Mirror {
             y: self.filter(record.y),
             window: record.window.map(|raw| self.temperature(raw)),
             last_raw: self.temperature(record.last_raw),
-            last_command,
+            memory: self.memory(&record.memory)?,
             ..*record
         })
+    }
+
+    /// Each command that is remembered, and the output that it was answered.
+    fn memory(self, memory: &Memory) -> Option<Memory> {
+        let mut mirrored = Memory::BLANK;
+        for (place, entry) in mirrored.0.iter_mut().zip(&memory.0) {
+            let command = match entry.command {
+                Some(command) => Some(self.command(command)?),
+                None => None,
+            };
+            *place = Entry { command, output: opposite(entry.output) };
+        }
+        Some(mirrored)
     }
 
     /// "Flip [..] the action", or "Keep the action". A bad one is no action to flip, and stays bad.

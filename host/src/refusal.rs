@@ -1,11 +1,12 @@
-//! The codes of 01's table under "Numbered delivery", and that of request 8.
+//! The codes of 01's table under "Numbered delivery", as request 6 amends it, and that of request 8.
 
 /// Why a call is refused. Each case has its paper's number, and its words.
 #[derive(Debug, Clone, Copy, PartialEq, Eq)]
 pub enum Refusal {
-    /// "number below last, or number 0"
+    /// "number below last, or number 0". Request 6: below last it is the one "older" than the window.
     OldNumber = 1,
-    /// "number = last, at least 1, other command or value"
+    /// "number = last, at least 1, other command or value". Request 6: any "number in that window with
+    /// other values".
     ReusedNumber = 2,
     /// "number above last + 1"
     NumberAhead = 3,

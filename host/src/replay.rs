@@ -19,17 +19,15 @@ pub struct Replayed {
 /// places hold the outputs, every later place keeps its number, and the count is n."
 ///
 /// "On a refusal neither record nor list changes, and the count is 0."
+///
+/// Request 6: "Replayed samples enter the window too; a replay sent again is still refused 1."
 pub fn replay(record: &mut Loop, first: u32, samples: &[i32], outputs: &mut [i32]) -> Replayed {
     if let Err((refusal, place)) = judge(record, first, samples, outputs.len()) {
         return Replayed { code: refusal.code(), place, count: 0 };
     }
-    for (&pv, output) in samples.iter().zip(outputs) {
-        record.sample(pv);
+    for (&raw, output) in samples.iter().zip(outputs) {
+        record.keep(Command::Sample(raw));
         *output = record.u;
-    }
-    if let Some(&pv) = samples.last() {
-        let kept = u32::try_from(samples.len()).expect("no more samples than numbers left");
-        record.remember(record.last + kept, Command::Sample(pv));
     }
     Replayed { code: 0, place: 0, count: samples.len() }
 }

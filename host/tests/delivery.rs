@@ -1,11 +1,15 @@
-//! 01, "Numbered delivery", and the walk of demand 3 over the plain law.
+//! 01, "Numbered delivery", and the walk of demand 3 over the plain law, as request 6 amends both.
 
-use host::delivery::{deliver, Answer, Delivery};
+// How far back repeats lie is counted in the tests of request 6.
+#[allow(dead_code)]
+mod walk;
+
+use host::delivery::{deliver, Answer};
 use host::example;
 use host::gen;
-use host::law::{obey, Command, Loop};
-use host::refusal::code;
+use host::law::{Command, Loop};
 use host::rng::for_each_seed;
+use walk::Walk;
 use Command::{Automatic, Hold, Put, Sample, Set};
 
 fn answer(code: i32, output: i32, last: u32) -> Answer {
@@ -32,7 +36,8 @@ fn unkept(record: &Loop, number: u32, command: Command) -> Answer {
 fn numbers_are_judged_as_the_table_says() {
     let record = two_kept();
     assert_eq!(unkept(&record, 0, Hold), answer(1, 70, 2));
-    assert_eq!(unkept(&record, 1, Sample(480)), answer(1, 70, 2));
+    assert_eq!(unkept(&record, 1, Sample(480)), answer(0, 100, 1));
+    assert_eq!(unkept(&record, 1, Sample(481)), answer(2, 70, 2));
     assert_eq!(unkept(&record, 2, Put(70)), answer(0, 70, 2));
     assert_eq!(unkept(&record, 2, Put(71)), answer(2, 70, 2));
     assert_eq!(unkept(&record, 2, Sample(70)), answer(2, 70, 2));
@@ -107,54 +112,30 @@ fn commands_of_no_effect_are_kept() {
 #[test]
 fn a_repeat_is_served_whatever_its_content() {
     for command in [Sample(i32::MIN), Put(5_000), Set(16), Command::Target { target: 0, rate: 0 }] {
-        let record = Loop { last: 9, last_command: Some(command), ..example::fresh() };
-        assert_eq!(unkept(&record, 9, command), answer(0, 100, 9));
+        let record = example::at_number(9, command);
+        for number in 1..=9 {
+            assert_eq!(unkept(&record, number, command), answer(0, 100, number));
+        }
         assert_ne!(unkept(&record, 10, command).code, 0);
     }
 }
 
-/// "After number 4,294,967,295 only its repeat is served."
+/// "After number 4,294,967,295 the last 32 are served": 4,294,967,264 is the oldest of them.
 #[test]
-fn after_the_last_number_only_its_repeat_is_served() {
+fn after_the_last_number_only_repeats_of_the_last_32_are_served() {
     let last = 4_294_967_295;
-    let mut record = Loop { last: last - 1, last_command: Some(Hold), ..example::fresh() };
+    let mut record = example::at_number(last - 1, Hold);
     assert_eq!(unkept(&record, last, Put(-1)), answer(5, 100, last - 1));
     assert_eq!(deliver(&mut record, last, Put(50)), answer(0, 50, last));
     assert_eq!(unkept(&record, last, Put(50)), answer(0, 50, last));
     assert_eq!(unkept(&record, last, Put(51)), answer(2, 50, last));
-    for number in [0, 1, 2, last - 1] {
-        assert_eq!(unkept(&record, number, Put(50)), answer(1, 50, last));
+    for number in 4_294_967_264..last {
+        assert_eq!(unkept(&record, number, Hold), answer(0, 100, number));
+        assert_eq!(unkept(&record, number, Put(50)), answer(2, 50, last));
     }
-}
-
-/// Demand 3's walk: it knows the plain law, the count kept so far and the latest kept command.
-struct Walk {
-    record: Loop,
-    kept: u32,
-    latest: Option<Command>,
-}
-
-impl Walk {
-    /// "keeping a delivery when its number is one more than the count kept so far and the law
-    /// accepts its content in the state reached"
-    fn answer(&mut self, delivery: &Delivery) -> Answer {
-        let code = if delivery.number == self.kept + 1 {
-            let code = code(obey(&mut self.record, delivery.command));
-            if code == 0 {
-                self.kept += 1;
-                self.latest = Some(delivery.command);
-            }
-            code
-        } else if delivery.number > self.kept {
-            3
-        } else if delivery.number == 0 || delivery.number < self.kept {
-            1
-        } else if self.latest == Some(delivery.command) {
-            0
-        } else {
-            2
-        };
-        answer(code, self.record.u, self.kept)
+    for number in [0, 1, 2, 4_294_967_262, 4_294_967_263] {
+        assert_eq!(unkept(&record, number, Hold), answer(1, 50, last));
+        assert_eq!(unkept(&record, number, Put(50)), answer(1, 50, last));
     }
 }
 
@@ -165,18 +146,16 @@ fn any_list_is_walked_as_demand_3_says() {
     let (mut kept, mut wild) = (0, 0);
     for_each_seed(500, |rng| {
         let settings = gen::settings(rng);
-        let list = gen::deliveries(rng, &settings, 300);
         let mut record = Loop::make(&settings).1;
-        let mut walk = Walk { record, kept: 0, latest: None };
-        for delivery in &list {
-            let expected = walk.answer(delivery);
+        let mut walk = Walk::new(&settings);
+        for delivery in gen::deliveries(rng, &settings, 300) {
+            let expected = walk.answer(&delivery);
             let answered = deliver(&mut record, delivery.number, delivery.command);
             assert_eq!(answered, expected, "{delivery:?}");
             wild += usize::from(answered.code == 19);
         }
-        let end = Loop { last: walk.kept, last_command: walk.latest, ..walk.record };
-        assert_eq!(record, end);
-        kept += walk.kept;
+        assert_eq!(record, walk.end());
+        kept += walk.kept.len();
     });
     assert!(kept > 50_000 && wild > 2_000, "{kept} kept, {wild} wild");
 }

@@ -1,14 +1,20 @@
 //! The generators give what the other tests need of them: nothing that matters stays unreached.
 
+// Where a walk ends is the matter of other tests.
+#[allow(dead_code)]
+mod walk;
+
 use host::by_hand::{amounts, Halves};
 use host::delivery::{deliver, Delivery};
 use host::form::{AfterRate, Form};
 use host::gen;
-use host::law::{Command, Loop, Mode};
+use host::law::{obey, Command, Loop, Mode};
+use host::memory::Entry;
 use host::replay::replay;
 use host::rng::{for_each_seed, Rng};
 use host::settings::{places, Settings};
 use host::text;
+use walk::{Repeats, Walk};
 
 #[test]
 fn a_seed_names_its_stream() {
@@ -235,6 +241,48 @@ fn deliveries_reach_every_command_code_and_kind_of_sample() {
     assert!(repeats > 500, "{repeats} repeats");
 }
 
+/// What a list has of repeats: all deliveries, the exact repeats of each distance, and the numbers in the
+/// window and older ones that come with another command.
+struct Retried {
+    count: usize,
+    repeats: Repeats,
+    reused: [usize; 2],
+}
+
+/// Counts these in 300 lists.
+fn retried(draw: fn(&mut Rng, &Settings, usize) -> Vec<Delivery>) -> Retried {
+    let mut retried = Retried { count: 0, repeats: Repeats::NONE, reused: [0; 2] };
+    for_each_seed(300, |rng| {
+        let settings = gen::settings(rng);
+        let mut walk = Walk::new(&settings);
+        for next in draw(rng, &settings, 400) {
+            retried.count += 1;
+            let repeated = retried.repeats.add(&walk, &next);
+            match (walk.answer(&next).code, repeated) {
+                (2, _) => retried.reused[0] += 1,
+                (1, None) if next.number > 0 => retried.reused[1] += 1,
+                _ => {}
+            }
+        }
+    });
+    retried
+}
+
+/// Repeats of the latest command and late ones at every distance up to 40, in every list some and in a
+/// list of retries half of it.
+#[test]
+fn deliveries_are_repeated_at_every_distance_and_half_of_all_retries_are() {
+    for (draw, share, least) in [
+        (gen::deliveries as fn(&mut Rng, &Settings, usize) -> Vec<Delivery>, 10, 100),
+        (gen::retries, 2, 500),
+    ] {
+        let Retried { count, repeats, reused } = retried(draw);
+        assert!(repeats.sum() * share > count, "{} of {count}", repeats.sum());
+        assert!(repeats.fewest() > least, "{repeats:?}");
+        assert!(reused.iter().all(|&count| count > 1_000), "in the window, older {reused:?}");
+    }
+}
+
 /// In automatic, after the first: samples exactly a jump away on either side, one more, and far past it;
 /// and in manual, and as the first, such as would be refused otherwise.
 #[test]
@@ -268,12 +316,11 @@ fn samples_reach_the_edges_of_the_jump() {
 fn doubtful_samples_are_refused_4_and_19_at_the_first_place_and_later() {
     let mut counts = [[0; 2]; 3];
     for_each_seed(5_000, |rng| {
-        let record = gen::record(rng);
+        let record = gen::record_at(rng, 7);
         let count = rng.below(20);
         let samples = gen::doubtful_samples(rng, &record, count);
         assert_eq!(samples.len(), count);
-        let first = Loop { last: 7, last_command: Some(Command::Hold), ..record };
-        let replayed = replay(&mut first.clone(), 8, &samples, &mut vec![0; count]);
+        let replayed = replay(&mut record.clone(), 8, &samples, &mut vec![0; count]);
         let code = [0, 4, 19].iter().position(|&code| code == replayed.code).expect("one of these");
         counts[code][usize::from(replayed.place > 0)] += 1;
     });
@@ -282,9 +329,15 @@ fn doubtful_samples_are_refused_4_and_19_at_the_first_place_and_later() {
     assert!(refused.concat().iter().all(|&count| count > 50), "{counts:?}");
 }
 
+/// Whether the law would refuse this remembered command, whatever the state.
+fn refuses(record: &Loop, entry: &Entry) -> bool {
+    let mut manual = Loop { mode: Mode::Manual, pending: false, ..*record };
+    entry.command.map_or(false, |command| obey(&mut manual, command).is_err())
+}
+
 #[test]
 fn records_are_valid_and_of_every_kind() {
-    let mut kinds = [0; 17];
+    let mut kinds = [0; 23];
     for_each_seed(3_000, |rng| {
         let record = gen::record(rng);
         assert_eq!(record.check(), Ok(()));
@@ -306,6 +359,12 @@ fn records_are_valid_and_of_every_kind() {
             record.primed && record.last_raw == 0,
             record.last_raw.abs() == 1_000_000,
             record.seen > 0 && record.primed && record.last_raw != record.window[0],
+            (2..31).contains(&record.last),
+            record.last == 31,
+            record.last == 32,
+            record.last == 33,
+            record.last > 0 && record.memory.0[0].output != record.u,
+            record.memory.0.iter().any(|entry| refuses(&record, entry)),
         ];
         for (kind, mark) in kinds.iter_mut().zip(marks) {
             *kind += i32::from(mark);
@@ -329,16 +388,18 @@ fn deliveries_and_samples_land_on_halves_of_either_sign_at_every_place() {
 #[test]
 fn doubtful_records_break_every_rule_and_some_keep_them() {
     let mut kept = 0;
-    let mut broken = [0; 16];
+    let mut broken = [0; 20];
     for_each_seed(5_000, |rng| {
         let sound = gen::record(rng);
         let record = gen::doubtful(rng, &sound);
+        let Settings { lo, hi, .. } = record.settings;
+        let (held, unused) = record.memory.0.split_at(record.last.min(32) as usize);
         let rules = [
             record.settings.check().is_ok(),
             Loop::TEMPERATURES.contains(&record.w) && Loop::TEMPERATURES.contains(&record.target),
             Loop::RATES.contains(&record.rate),
             Loop::SETS.contains(&record.set),
-            record.settings.lo <= record.u && record.u <= record.settings.hi,
+            (lo..=hi).contains(&record.u),
             record.integral.checked_abs().map_or(false, |size| size <= Loop::B),
             record.y.checked_abs().map_or(false, |size| size <= Loop::Y),
             record.primed || record.y == 0,
@@ -350,6 +411,10 @@ fn doubtful_records_break_every_rule_and_some_keep_them() {
             (1..=2_000_000).contains(&record.settings.jump),
             Loop::TEMPERATURES.contains(&record.last_raw),
             record.primed || record.last_raw == 0,
+            held.iter().all(|entry| entry.command.is_some()),
+            held.iter().all(|Entry { output, .. }| (lo..=hi).contains(output)),
+            unused.iter().all(|entry| entry.command.is_none()),
+            unused.iter().all(|entry| entry.output == 0),
         ];
         for (count, rule) in broken.iter_mut().zip(rules) {
             *count += i32::from(!rule);

@@ -10,7 +10,7 @@ use host::gen;
 use host::journal::{delivery_line, parse, run};
 use host::law::{Command, Loop};
 use host::rng::for_each_seed;
-use papers::{deliveries_of, edges_told, full_c, short_c, JOURNALS};
+use papers::{deliveries_of, edges_told, full_c, journals, short_c};
 
 /// The output with settings C.
 fn with_c(deliveries: &[u8]) -> String {
@@ -66,12 +66,12 @@ number=2 command=put value=0 second=0 code=0 output=0 last=2
     assert_eq!(with_c(&deliveries_of(journal)), journal);
 }
 
-/// Repeats and refusals do not enter the window, manual samples do; and a wild reading is answered 19,
-/// after which the run goes on.
+/// Repeats and refusals do not enter the window, manual samples do; a wild reading is answered 19, after
+/// which the run goes on; and a late repeat has its own number in its answer.
 #[test]
-fn the_journals_of_a_mean_and_of_a_jump() {
-    for (after_rate, journal) in JOURNALS {
-        assert_eq!(run(short_c(after_rate).as_bytes(), &deliveries_of(journal)), journal);
+fn the_journals_of_a_mean_of_a_jump_and_of_late_repeats() {
+    for (after_rate, journal) in journals() {
+        assert_eq!(run(short_c(after_rate).as_bytes(), &deliveries_of(&journal)), journal);
     }
 }
 

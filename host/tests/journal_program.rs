@@ -1,9 +1,13 @@
 //! The proved program `journal` against the peer: every byte that it writes.
 
 mod common;
+mod late;
 // What else the papers say of the settings text is the matter of other tests.
 #[allow(dead_code)]
 mod papers;
+// Where a walk ends is the matter of other tests.
+#[allow(dead_code)]
+mod walk;
 
 use common::{across_a_cut, for_each_seed, odd_lines, same, words_of_digits, Program};
 use host::delivery::Delivery;
@@ -11,8 +15,10 @@ use host::law::Command;
 use host::rng::Rng;
 use host::settings::Settings;
 use host::{example, gen, journal};
-use papers::{deliveries_of, edges_told, short_c, FORMS, JOURNALS, JUMPS, MEANS};
+use papers::{deliveries_of, edges_told, journals, short_c, FORMS, JUMPS, MEANS};
 use std::sync::atomic::{AtomicUsize, Ordering::Relaxed};
+use std::sync::Mutex;
+use walk::{Repeats, Walk};
 
 fn journal_agrees(program: &Program, settings: &[u8], deliveries: &[u8]) {
     same("journal", &program.run(settings, deliveries), &journal::run(settings, deliveries));
@@ -112,14 +118,60 @@ fn there_are_sixteen_sets() {
     }
 }
 
-/// Requests 7 and 8, by hand: what the papers say, and not what the peer says.
+/// Requests 6, 7 and 8, by hand: what the papers say, and not what the peer says.
 #[test]
-fn the_journals_of_a_mean_and_of_a_jump() {
+fn the_journals_of_a_mean_of_a_jump_and_of_late_repeats() {
     let program = Program::new("journal");
-    for (after_rate, journal) in JOURNALS {
+    for (after_rate, journal) in journals() {
         let settings = short_c(after_rate);
-        same("journal", &program.run(settings.as_bytes(), &deliveries_of(journal)), journal);
+        same("journal", &program.run(settings.as_bytes(), &deliveries_of(&journal)), &journal);
     }
+}
+
+/// Every number from the latest to 40 back, after each of many commands: what was answered first, and not
+/// what the peer's memory says.
+#[test]
+fn late_repeats_at_every_distance_are_answered_as_at_first() {
+    let list = late::probed(&late::every_kind(130));
+    let deliveries: Vec<Delivery> = list.iter().map(|(delivery, _)| *delivery).collect();
+    let expected: String = list.iter().map(late::line).collect();
+    let file = gen::deliveries_file(&deliveries);
+    for form in FORMS {
+        let written = Program::new("journal").run(form.c().as_bytes(), &file);
+        same("journal", &written, &expected);
+        assert_eq!(journal::run(form.c().as_bytes(), &file), expected);
+    }
+}
+
+/// At least 200,000 deliveries of which a third are exact repeats, at every distance from 0 to 40: those of
+/// the last 32 are served, and the others are 1.
+#[test]
+fn random_retries_are_answered_alike() {
+    let program = Program::new("journal");
+    let met = Mutex::new((0, Repeats::NONE));
+    for_each_seed(420, |rng| {
+        let settings = gen::settings(rng);
+        let list = gen::retries(rng, &settings, 500);
+        let text = gen::settings_text(rng, &settings);
+        let file = gen::deliveries_file(&list);
+        let expected = journal::run(&text, &file);
+        same("journal", &program.run(&text, &file), &expected);
+
+        let (mut walk, mut repeats) = (Walk::new(&settings), Repeats::NONE);
+        for (delivery, line) in list.iter().zip(expected.lines()) {
+            let distance = repeats.add(&walk, delivery);
+            let answer = walk.answer(delivery);
+            assert_eq!(format!("{line}\n"), late::line(&(*delivery, answer)));
+            let code = distance.map(|distance| i32::from(distance > 31));
+            assert!(code.map_or(true, |code| code == answer.code), "{distance:?}: {line}");
+        }
+        let mut met = met.lock().expect("no other part has failed");
+        met.0 += list.len();
+        met.1.join(&repeats);
+    });
+    let (count, repeats) = met.into_inner().expect("no part has failed");
+    assert!(count >= 200_000 && repeats.sum() * 3 >= count, "{} of {count}", repeats.sum());
+    assert!(repeats.fewest() >= 500, "{repeats:?}");
 }
 
 /// Lists of every command whose kept samples fill the window more than twice.

@@ -5,6 +5,7 @@ use host::by_hand::{amounts, nearest, Amounts, Halves};
 use host::example;
 use host::gen;
 use host::law::{obey, Command, Loop, Mode};
+use host::memory::Memory;
 use host::refusal::Refusal;
 use host::rng::for_each_seed;
 use host::settings::{GainSet, Settings};
@@ -44,7 +45,7 @@ fn a_fresh_loop_is_as_01_lists_it() {
         seen: 0,
         last_raw: 0,
         last: 0,
-        last_command: None,
+        memory: Memory::BLANK,
     };
     assert_eq!(Loop::make(&settings), (0, fresh));
 }

@@ -183,10 +183,11 @@ fn a_repeat_needs_the_raw_temperature() {
         assert_eq!(deliver(&mut record, number, command).code, 0);
     }
     let before = record;
-    assert_eq!(record.last_command, Some(Sample(470)));
+    assert_eq!(record.memory.0[0].command, Some(Sample(470)));
     let answer = |code| Answer { code, output: record.u, last: 3 };
     assert_eq!(deliver(&mut record.clone(), 3, Sample(470)), answer(0));
     assert_eq!(deliver(&mut record.clone(), 3, Sample(475)), answer(2));
+    assert_eq!(deliver(&mut record.clone(), 2, Sample(475)), answer(2), "nor the one before it");
     deliver(&mut record, 3, Sample(470));
     assert_eq!(record, before, "a repeat does not enter the window");
 }

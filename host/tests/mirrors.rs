@@ -29,7 +29,7 @@ struct Pair<'a> {
 }
 
 impl Pair<'_> {
-    /// The record and its mirror; none where its last command has no mirror.
+    /// The record and its mirror; none where a command that it remembers has no mirror.
     fn new(mirror: Mirror, one: Loop, halves: &mut Halves) -> Option<Pair<'_>> {
         Some(Pair { mirror, one, other: mirror.record(&one)?, halves })
     }
@@ -130,8 +130,8 @@ fn a_record() -> Loop {
         window,
         seen: 3,
         last_raw: 481,
-        last: 7,
-        last_command: Some(Put(113)),
+        last: 3,
+        memory: [(Put(-7), -7), (Sample(480), 70), (Put(113), 113)].into_iter().collect(),
         settings: Settings { jump: 77, ..example::settings() },
         ..example::fresh()
     }
@@ -144,8 +144,8 @@ fn the_mirror_of_the_action_flips_what_the_request_names() {
     let record = a_record();
     let settings = Settings { action: 1, lo: -1_000, hi: 0, out: -100, ..record.settings };
     assert_eq!(OfAction.settings(&record.settings), settings);
-    let last_command = Some(Put(-113));
-    let mirrored = Loop { settings, u: -113, integral: -5_930_000, last_command, ..record };
+    let memory = [(Put(7), 7), (Sample(480), -70), (Put(-113), -113)].into_iter().collect();
+    let mirrored = Loop { settings, u: -113, integral: -5_930_000, memory, ..record };
     assert_eq!(OfAction.record(&record), Some(mirrored));
     assert_eq!(OfAction.command(Put(-5)), Some(Put(5)));
     let aim = Command::Target { target: 800, rate: 50 };
@@ -172,7 +172,7 @@ fn the_mirror_of_the_temperatures_flips_what_the_request_names() {
         y: -31_457_281,
         window,
         last_raw: -481,
-        last_command: Some(Put(-113)),
+        memory: [(Put(7), 7), (Sample(-480), -70), (Put(-113), -113)].into_iter().collect(),
         ..record
     };
     assert_eq!(OfTemperatures.record(&record), Some(mirrored));
@@ -193,8 +193,11 @@ fn only_a_flipped_value_at_the_least_of_its_type_has_no_mirror() {
     let aim = |target, rate| Command::Target { target, rate };
     for mirror in Mirror::BOTH {
         assert_eq!(mirror.command(Put(i32::MIN)), None);
-        let record = Loop { last_command: Some(Put(i32::MIN)), ..a_record() };
-        assert_eq!(mirror.record(&record), None);
+        for place in 0..3 {
+            let mut record = a_record();
+            record.memory.0[place].command = Some(Put(i32::MIN));
+            assert_eq!(mirror.record(&record), None, "{place}");
+        }
         let delivery = Delivery { number: 8, command: Put(i32::MIN) };
         assert_eq!(mirror.delivery(&delivery), None);
         for unflipped in [aim(0, i32::MIN), Set(i32::MIN)] {
@@ -283,7 +286,7 @@ fn lists_of_deliveries_mirror_from_a_fresh_loop() {
     in_both_mirrors(400, |mirror, rng| {
         let settings = gen::settings(rng);
         let fresh = Loop::make(&settings).1;
-        let mut pair = Pair::new(mirror, fresh, &mut halves).expect("no last command yet");
+        let mut pair = Pair::new(mirror, fresh, &mut halves).expect("nothing is remembered yet");
         assert_eq!(pair.other, Loop::make(&mirror.settings(&settings)).1);
         for next in gen::deliveries(rng, &settings, 300) {
             if let Some(code) = pair.deliver(&next) {

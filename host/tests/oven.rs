@@ -123,7 +123,8 @@ fn a_sample_past_number_4_294_967_295_is_13() {
     deliver(&mut record, 1, Command::Automatic);
     assert_eq!(serve(&mut record, b"480\n480\n478\n"), "100\n105\n113\n");
     assert_eq!(record.last, 4);
-    record.last = u32::MAX - 2;
+    let late = example::at_number(u32::MAX - 2, Command::Sample(478));
+    record = Loop { last: late.last, memory: late.memory, ..record };
     assert_eq!(serve(&mut record, b"478\n478\n478\n1\n"), "118\n124\nrefused 13 3\n");
     assert_eq!(record.last, u32::MAX);
     assert_eq!(serve(&mut record, b"478\n"), "refused 13 1\n");

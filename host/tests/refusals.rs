@@ -51,11 +51,11 @@ fn broken() -> Loop {
 fn every_code_is_reached() {
     let narrow = Settings { hi: 0, out: 0, ..example::settings() };
     let wide = Settings { hi: 1_000_001, ..example::settings() };
-    let near_the_end = Loop { last: u32::MAX - 1, last_command: Some(Hold), ..example::fresh() };
+    let near_the_end = example::at_number(u32::MAX - 1, Hold);
     let tight = Settings { jump: 10, ..example::settings() };
     let codes = [
         delivered(&[], 1, Hold),
-        delivered(&[Hold, Hold], 1, Hold),
+        delivered(&[Hold; 33], 1, Hold),
         delivered(&[Hold], 1, Automatic),
         delivered(&[Hold], 3, Hold),
         delivered(&[], 1, Sample(1_000_001)),
@@ -115,7 +115,8 @@ fn deliveries_are_refused_in_order() {
     let bad = Sample(i32::MAX);
     assert_eq!(deliver(&mut broken(), 0, bad).code, 10);
     assert_eq!(delivered(&[Hold], 0, bad), 1);
-    assert_eq!(delivered(&[Hold, Hold], 1, bad), 1);
+    assert_eq!(delivered(&[Hold; 33], 1, bad), 1);
+    assert_eq!(delivered(&[Hold; 32], 1, bad), 2);
     assert_eq!(delivered(&[Hold], 1, bad), 2);
     assert_eq!(delivered(&[Hold], 3, bad), 3);
     assert_eq!(delivered(&[Hold], 2, bad), 4);
@@ -133,8 +134,10 @@ fn a_wild_reading_is_refused_last() {
     let broken = Loop { u: -1, ..Loop::make(&tight).1 };
     assert_eq!(deliver(&mut broken.clone(), 3, Sample(0)).code, 10);
     assert_eq!(delivered_to(&tight, &kept, 0, Sample(0)), 1);
-    assert_eq!(delivered_to(&tight, &kept, 1, Sample(0)), 1);
+    assert_eq!(delivered_to(&tight, &kept, 1, Sample(0)), 2);
     assert_eq!(delivered_to(&tight, &kept, 2, Sample(0)), 2);
+    let long = [&kept[..], &[Sample(999_995); 31]].concat();
+    assert_eq!(delivered_to(&tight, &long, 1, Sample(0)), 1);
     assert_eq!(delivered_to(&tight, &kept, 4, Sample(0)), 3);
     for far in [i32::MIN, -1_000_001, 1_000_001, 1_000_006, i32::MAX] {
         assert_eq!(delivered_to(&tight, &kept, 3, Sample(far)), 4, "{far}");
@@ -300,7 +303,7 @@ fn code_9_starts_at_16() {
 #[test]
 fn replays_are_refused_in_order() {
     let last = u32::MAX - 3;
-    let good = Loop { last, last_command: Some(Hold), ..example::fresh() };
+    let good = example::at_number(last, Hold);
     let broken = Loop { pending: true, ..good };
     let samples = [480, 480, 1_000_001, i32::MIN];
     let run = |mut record: Loop, first: u32, samples: &[i32], places: usize| {
@@ -328,7 +331,7 @@ fn replays_are_refused_in_order() {
 #[test]
 fn a_replay_refuses_a_wild_reading_last() {
     let last = u32::MAX - 3;
-    let mut good = Loop { last, last_command: Some(Hold), ..example::fresh() };
+    let mut good = example::at_number(last, Hold);
     good = Loop { mode: Mode::Automatic, primed: true, last_raw: 480, ..good };
     good.settings.jump = 10;
     let broken = Loop { last_raw: 1_000_001, ..good };
@@ -350,7 +353,7 @@ fn a_replay_refuses_a_wild_reading_last() {
 /// range 4." "a line is judged 14, 13, 4, 19"
 #[test]
 fn sample_lines_are_refused_in_order() {
-    let ended = Loop { last: u32::MAX, last_command: Some(Hold), ..example::fresh() };
+    let ended = example::at_number(u32::MAX, Hold);
     let serve = |record: Loop, file: &[u8]| oven::serve(&mut record.clone(), file);
     let tight = |record: Loop| Loop {
         settings: Settings { jump: 10, ..record.settings },

@@ -4,6 +4,7 @@ use host::delivery::{deliver, Answer};
 use host::example;
 use host::gen;
 use host::law::{Command, Loop};
+use host::memory::Entry;
 use host::replay::{replay, Replayed};
 use host::rng::{for_each_seed, Rng};
 use host::settings::Settings;
@@ -50,7 +51,8 @@ fn the_example_of_01() {
     assert_eq!(replayed, done(3));
     assert_eq!(outputs, [100, 105, 113, -7, -7], "every later place keeps its number");
     assert_eq!((record.u, record.integral), (113, 181 * Loop::F / 2));
-    assert_eq!((record.last, record.last_command), (4, Some(Command::Sample(478))));
+    let newest = Entry { command: Some(Command::Sample(478)), output: 113 };
+    assert_eq!((record.last, record.memory.0[0]), (4, newest));
 }
 
 /// "On success the record and outputs are those of delivering the n samples in order", the window
@@ -110,7 +112,7 @@ fn a_replay_sent_again_whole_is_refused_1() {
     assert_eq!(replay(&mut record, 1, &[480], &mut [0]), refused(1, 0));
     let repeat = deliver(&mut record, 1, Command::Sample(480));
     let as_before = Answer { code: 0, output: 100, last: 1 };
-    assert_eq!(repeat, as_before, "its last sample alone is a repeat");
+    assert_eq!(repeat, as_before, "its sample alone is a repeat");
 }
 
 /// "No samples: done, nothing changes", though 10, 1 and 3 are tested still.
@@ -129,22 +131,25 @@ fn no_samples_change_nothing() {
 
 #[test]
 fn after_the_last_number_every_replay_is_1() {
-    let mut record =
-        Loop { last: u32::MAX, last_command: Some(Command::Sample(480)), ..example::fresh() };
-    for first in [0, 1, u32::MAX - 1, u32::MAX] {
+    let mut record = example::at_number(u32::MAX, Command::Sample(480));
+    for first in [0, 1, u32::MAX - 32, u32::MAX - 31, u32::MAX - 1, u32::MAX] {
         for samples in [&[][..], &[480], &[i32::MAX]] {
             assert_eq!(replay(&mut record, first, samples, &mut []), refused(1, 0));
         }
     }
 }
 
+/// A random record with numbers left for any list.
+fn with_numbers_left(rng: &mut Rng) -> Loop {
+    let last = rng.pick(&[0, 1, 20, 31, 32, 2_000_000_000]);
+    gen::record_at(rng, last)
+}
+
 /// "then 4, with the place of the first bad sample"
 #[test]
 fn the_first_bad_sample_is_told_and_nothing_kept() {
     for_each_seed(1_000, |rng| {
-        let mut record = gen::record(rng);
-        record.last /= 2;
-        record.last_command = record.last_command.filter(|_| record.last > 0);
+        let mut record = with_numbers_left(rng);
         let before = record;
         let count = 1 + rng.below(50);
         let mut samples = gen::samples_for(rng, &record, count);
@@ -229,9 +234,7 @@ fn the_first_sample_and_manual_mode_are_exempt_in_a_replay() {
 fn a_replay_is_refused_where_single_deliveries_would_be() {
     let mut codes = [[0; 20]; 2];
     for_each_seed(10_000, |rng| {
-        let mut start = gen::record(rng);
-        start.last /= 2;
-        start.last_command = start.last_command.filter(|_| start.last > 0);
+        let start = with_numbers_left(rng);
         let count = rng.below(25);
         let samples = gen::doubtful_samples(rng, &start, count);
         let mut one_by_one = start;

@@ -1,16 +1,17 @@
-//! 01's state rules and those of requests 7 and 8: each by itself, at its ends, and over unreached
+//! 01's state rules and those of requests 6, 7 and 8: each by itself, at its ends, and over unreached
 //! records.
 
 use host::delivery::{deliver, Answer};
 use host::example;
 use host::gen;
 use host::law::{obey, Command, Loop, Mode};
+use host::memory::{Entry, Memory};
 use host::refusal::Refusal;
 use host::replay::{replay, Replayed};
 use host::rng::for_each_seed;
-use host::settings::GainSet;
+use host::settings::{GainSet, Settings};
 
-/// A valid automatic record, primed, that has seen three temperatures and remembers a command.
+/// A valid automatic record, primed, that has seen three temperatures and remembers seven commands.
 fn valid() -> Loop {
     let mut window = [0; 128];
     window[..3].fill(480);
@@ -21,10 +22,13 @@ fn valid() -> Loop {
         mode: Mode::Automatic,
         primed: true,
         y: 480 * Loop::F,
-        last: 7,
-        last_command: Some(Command::Sample(480)),
-        ..example::fresh()
+        ..example::at_number(7, Command::Sample(480))
     }
+}
+
+/// The same at another last number, with what that asks for.
+fn valid_at(last: u32) -> Loop {
+    Loop { last, memory: example::at_number(last, Command::Sample(480)).memory, ..valid() }
 }
 
 fn with(change: fn(&mut Loop)) -> Loop {
@@ -35,7 +39,8 @@ fn with(change: fn(&mut Loop)) -> Loop {
 
 /// Records that break one rule each.
 fn broken() -> Vec<Loop> {
-    [broken_settings(), broken_state(), broken_window(), broken_last_raw()].concat()
+    let others = [broken_settings(), broken_state(), broken_window(), broken_last_raw()].concat();
+    [others, broken_counts(), broken_entries()].concat()
 }
 
 /// Those that break "settings within the table".
@@ -101,9 +106,70 @@ fn broken_state() -> Vec<Loop> {
             l.mode = Mode::Manual;
             l.pending = true;
         }),
-        with(|l| l.last = 0),
-        with(|l| l.last_command = None),
     ]
+}
+
+/// Those that break a rule of request 6: "it holds as many entries as the smaller of 32 and the last
+/// number".
+fn broken_counts() -> Vec<Loop> {
+    let mut records = vec![with(|l| l.memory = Memory::BLANK)];
+    // As many entries as `one` asks for, at the last number `other`.
+    let at = |one, other| Loop { last: other, ..valid_at(one) };
+    let few = [0, 1, 2, 6, 8, 30, 31, 32, 33, 256, 1 << 31, u32::MAX - 1, u32::MAX];
+    records.extend(few.map(|last| at(7, last)));
+    records.extend((1..=40).map(|last| at(last, 0)));
+    records.extend((1..=32).flat_map(|last| [at(last - 1, last), at(last, last - 1)]));
+    records.extend([33, 1_000, u32::MAX].map(|last| at(31, last)));
+    records
+}
+
+/// Every place of the memory at each of these last numbers, and whether it is used there.
+fn places(lasts: &[u32]) -> Vec<(u32, usize, bool)> {
+    let of_one = |&last: &u32| (0..32).map(move |place| (last, place, place < last as usize));
+    lasts.iter().flat_map(of_one).collect()
+}
+
+/// A record at this last number with this in a place of its memory.
+fn with_entry(last: u32, place: usize, command: Option<Command>, output: i32) -> Loop {
+    let mut record = valid_at(last);
+    record.memory.0[place] = Entry { command, output };
+    record
+}
+
+/// "their outputs lie in lo..hi, and unused places are blank", in each place.
+fn broken_entries() -> Vec<Loop> {
+    let sample = Some(Command::Sample(480));
+    let mut records = vec![];
+    for (last, place, used) in places(&[7, 31, 32, 33, u32::MAX]) {
+        let broken = if used {
+            let outside = [-1, 1_001, i32::MIN, i32::MAX].map(|output| (sample, output));
+            [&outside[..], &[(None, 0), (None, 100), (None, -1)]].concat()
+        } else {
+            vec![(sample, 0), (sample, 100), (None, 1), (None, -1), (None, 100), (None, i32::MIN)]
+        };
+        let with_entry = |(command, output)| with_entry(last, place, command, output);
+        records.extend(broken.into_iter().map(with_entry));
+    }
+    records
+}
+
+/// Records that keep the rules of request 6 at their very ends. "Not the values in its command, not that
+/// the newest output is u", which here is 100.
+fn memories_at_the_ends() -> Vec<Loop> {
+    let entries = [
+        (Command::Sample(i32::MIN), 0),
+        (Command::Set(77), 1_000),
+        (Command::Put(-5), 99),
+        (Command::Target { target: i32::MAX, rate: 0 }, 101),
+        (Command::Hold, 100),
+    ];
+    let mut records: Vec<Loop> = (0..=40).chain([u32::MAX - 1, u32::MAX]).map(valid_at).collect();
+    let lasts = [1, 2, 7, 31, 32, 33, u32::MAX];
+    for (last, place, _) in places(&lasts).into_iter().filter(|&(_, _, used)| used) {
+        let with_entry = |(command, output)| with_entry(last, place, Some(command), output);
+        records.extend(entries.map(with_entry));
+    }
+    records
 }
 
 /// Those that break a rule of request 7: "the window's temperatures lie in range, at most 128 are
@@ -204,20 +270,13 @@ fn at_the_ends() -> Vec<Loop> {
         with(|l| l.y = -65_536_000_000),
         unprimed(0),
         with(|l| l.pending = true),
-        with(|l| {
-            l.last = 0;
-            l.last_command = None;
-        }),
-        with(|l| l.last = u32::MAX),
-        with(|l| l.last_command = Some(Command::Sample(i32::MIN))),
-        with(|l| l.last_command = Some(Command::Set(77))),
     ]
 }
 
 #[test]
 fn each_rule_is_tested_and_nothing_more() {
-    let good = [at_the_ends(), windows_at_the_ends(), last_raws_at_the_ends()];
-    for record in good.concat() {
+    let windows = [windows_at_the_ends(), last_raws_at_the_ends()].concat();
+    for record in [at_the_ends(), memories_at_the_ends(), windows].concat() {
         assert_eq!(record.check(), Ok(()), "{record:?}");
     }
     for record in broken() {
@@ -272,11 +331,30 @@ fn a_broken_record_gets_10_and_stays() {
     }
 }
 
+/// "some records that keep them are never reached, and are served all the same": each command that such
+/// a one remembers gets the output beside it, whatever its values and whatever u is, and with another
+/// command its number gets u.
+#[test]
+fn unreached_memories_are_served() {
+    for record in memories_at_the_ends() {
+        for (place, entry) in (0..).zip(record.memory.0.iter().take(record.last.min(32) as usize)) {
+            let number = record.last - place;
+            let mut tried = record;
+            let command = entry.command.expect("a command in a used place");
+            let first = Answer { code: 0, output: entry.output, last: number };
+            assert_eq!(deliver(&mut tried, number, command), first, "{record:?}");
+            let reused = Answer { code: 2, output: record.u, last: record.last };
+            assert_eq!(deliver(&mut tried, number, Command::Put(77)), reused, "{record:?}");
+            assert_eq!(tried, record);
+        }
+    }
+}
+
 /// "some records that keep them are never reached, and are served all the same"; power stays
 /// within lo..hi and the integral within B.
 #[test]
 fn unreached_records_are_served_and_stay_valid() {
-    let mut kept = 0;
+    let (mut kept, mut repeats) = (0, 0);
     for_each_seed(4_000, |rng| {
         let mut record = gen::record(rng);
         assert_eq!(record.check(), Ok(()), "{record:?}");
@@ -286,19 +364,30 @@ fn unreached_records_are_served_and_stay_valid() {
             let answer = deliver(&mut record, next.number, next.command);
             assert_eq!(record.check(), Ok(()), "{next:?} on {before:?}");
             assert_ne!(answer.code, 10);
-            assert_eq!((answer.output, answer.last), (record.u, record.last));
-            assert!(record.settings.lo <= record.u && record.u <= record.settings.hi);
+            let Settings { lo, hi, .. } = record.settings;
+            assert!([record.u, answer.output].iter().all(|output| (lo..=hi).contains(output)));
             assert!(-Loop::B <= record.integral && record.integral <= Loop::B);
             if record.last == before.last {
                 assert_eq!(record, before, "{next:?}");
+                repeats += usize::from(answer.code == 0);
+                if answer.code == 0 {
+                    let place = (record.last - next.number) as usize;
+                    let first = Entry { command: Some(next.command), output: answer.output };
+                    assert_eq!((record.memory.0[place], answer.last), (first, next.number));
+                } else {
+                    assert_eq!((answer.output, answer.last), (record.u, record.last));
+                }
             } else {
                 kept += 1;
+                let newest = Entry { command: Some(next.command), output: record.u };
                 assert_eq!((answer.code, record.last), (0, next.number));
-                assert_eq!(record.last_command, Some(next.command));
+                assert_eq!((answer.output, answer.last), (record.u, record.last));
+                assert_eq!(record.memory.0[0], newest);
+                assert_eq!(record.memory.0[1..], before.memory.0[..31], "each a place further");
             }
         }
     });
-    assert!(kept > 30_000, "{kept} kept");
+    assert!(kept > 30_000 && repeats > 10_000, "{kept} kept, {repeats} repeats");
 }
 
 /// "Every loop the software makes keeps them".

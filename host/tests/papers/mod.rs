@@ -1,8 +1,12 @@
 //! What the papers say of the settings text, in their own numbers: 26 lines or 86, four sets or
 //! sixteen, with the line of the mean one more and with that of the jump two; and what they say of a
-//! mean and of a jump. The peer has no part in it but the text of settings C, which is 01's.
+//! mean, of a jump and of late repeats. The peer has no part in it but the text of settings C, which is
+//! 01's.
+
+pub mod retries;
 
 use host::example::C;
+use retries::{journal_of_a_window_that_stays, journal_of_the_window, JOURNAL_WITH_LATE_REPEATS};
 
 /// "action, lo, hi, out, sp, rate", mean, which "follows rate", jump, "a settings line after mean",
 /// "then kp0 ki0 kd0 alpha0 kt0, then the same for" the sets 1 to 15: the 88 keys in their order.
@@ -523,7 +527,8 @@ number=5 command=sample value=480 second=0 code=0 output=115 last=5
 number=5 command=sample value=480 second=0 code=0 output=115 last=5
 number=5 command=sample value=1000 second=0 code=2 output=115 last=5
 number=7 command=sample value=1000 second=0 code=3 output=115 last=5
-number=4 command=sample value=1000 second=0 code=1 output=115 last=5
+number=4 command=sample value=1000 second=0 code=2 output=115 last=5
+number=4 command=sample value=490 second=0 code=0 output=100 last=4
 number=6 command=set value=1 second=0 code=0 output=115 last=6
 number=7 command=sample value=491 second=0 code=19 output=115 last=6
 number=7 command=hold value=0 second=0 code=0 output=115 last=7
@@ -546,7 +551,8 @@ number=4 command=sample value=480 second=0 code=0 output=105 last=4
 number=4 command=sample value=480 second=0 code=0 output=105 last=4
 number=5 command=sample value=1000001 second=0 code=4 output=105 last=4
 number=6 command=sample value=400 second=0 code=3 output=105 last=4
-number=3 command=sample value=400 second=0 code=1 output=105 last=4
+number=3 command=sample value=400 second=0 code=2 output=105 last=4
+number=3 command=sample value=480 second=0 code=0 output=100 last=3
 number=4 command=sample value=400 second=0 code=2 output=105 last=4
 number=5 command=target value=500 second=50 code=0 output=105 last=5
 number=6 command=sample value=470 second=0 code=0 output=116 last=6
@@ -566,8 +572,15 @@ pub fn deliveries_of(journal: &str) -> Vec<u8> {
 }
 
 /// What stands between rate and kp0 in settings C, and what `journal` writes.
-pub const JOURNALS: [(&str, &str); 2] =
-    [("mean=2", JOURNAL_WITH_MEAN_2), ("mean=1\njump=10", JOURNAL_WITH_JUMP_10)];
+pub fn journals() -> [(&'static str, String); 5] {
+    [
+        ("mean=2", JOURNAL_WITH_MEAN_2.to_string()),
+        ("mean=1\njump=10", JOURNAL_WITH_JUMP_10.to_string()),
+        ("mean=1", JOURNAL_WITH_LATE_REPEATS.to_string()),
+        ("mean=1", journal_of_the_window()),
+        ("mean=1", journal_of_a_window_that_stays()),
+    ]
+}
 
 /// The longest text that is accepted, of every line; in each form it is the longest of that.
 pub fn longest_text() -> String {
