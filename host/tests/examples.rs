@@ -1,5 +1,5 @@
-//! The files below examples/: what the README shows of them, what a mean does for a noisy sensor, and a
-//! jump for a loose connector.
+//! The files below examples/: what the README shows of them, what a mean does for a noisy sensor, a
+//! jump for a loose connector, and what a late repeat is answered.
 
 // Cut lines and missing files are the matter of the other tests of the programs.
 #[allow(dead_code)]
@@ -25,8 +25,9 @@ const OVENS: [(&str, &str); 5] = [
 ];
 
 /// The settings and the deliveries of each journal.
-const JOURNALS: [(&str, &str); 3] = [
+const JOURNALS: [(&str, &str); 4] = [
     ("c.settings", "retried.deliveries"),
+    ("c.settings", "late.deliveries"),
     ("sixteen.settings", "sixteen.deliveries"),
     ("loose.settings", "loose.deliveries"),
 ];
@@ -35,6 +36,12 @@ const JOURNALS: [(&str, &str); 3] = [
 fn outputs(settings: &str, samples: &str) -> Vec<i32> {
     let written = oven::run(&example(settings), &example(samples));
     written.lines().map(|output| output.parse().expect("an output")).collect()
+}
+
+/// The peer's answers to the deliveries of an example: what follows "code=" in each line.
+fn answers(settings: &str, deliveries: &str) -> Vec<String> {
+    let written = journal::run(&example(settings), &example(deliveries));
+    written.lines().filter_map(|line| line.split(" code=").nth(1)).map(String::from).collect()
 }
 
 /// How far the outputs lie apart.
@@ -74,9 +81,6 @@ fn a_mean_calms_the_power_of_a_noisy_cooler() {
 /// until hold, a sample, automatic; then the samples go on from there.
 #[test]
 fn a_jump_keeps_a_loose_connector_from_the_power() {
-    let written = journal::run(&example("loose.settings"), &example("loose.deliveries"));
-    let answers: Vec<&str> =
-        written.lines().filter_map(|line| line.split(" code=").nth(1)).collect();
     let expected = [
         "0 output=350000 last=1",
         "0 output=350000 last=2",
@@ -93,12 +97,34 @@ fn a_jump_keeps_a_loose_connector_from_the_power() {
         "0 output=350562 last=10",
         "0 output=397479 last=11",
     ];
-    assert_eq!(answers, expected);
+    assert_eq!(answers("loose.settings", "loose.deliveries"), expected);
     let without =
         String::from_utf8(example("loose.settings")).expect("text").replace("jump=500\n", "");
     let driven = journal::run(without.as_bytes(), &example("loose.deliveries"));
     let wild = driven.lines().nth(4).expect("the wild reading");
     assert!(wild.ends_with(" code=0 output=1000000 last=5"), "without the jump: {wild}");
+}
+
+/// 36 commands are kept, and 5 to 36 are remembered: 5 comes again with its first answer, and 4 is too
+/// old. 20 has another value. With 37 kept, 5 is too old as well, and 6 is the oldest.
+#[test]
+fn late_repeats_are_answered_as_the_readme_shows() {
+    let answers = answers("c.settings", "late.deliveries");
+    assert_eq!(
+        answers[3..6],
+        ["0 output=113 last=4", "0 output=117 last=5", "0 output=122 last=6"]
+    );
+    let late = [
+        "0 output=166 last=36",
+        "0 output=166 last=35",
+        "0 output=117 last=5",
+        "1 output=166 last=36",
+        "2 output=166 last=36",
+        "0 output=166 last=37",
+        "1 output=166 last=37",
+        "0 output=122 last=6",
+    ];
+    assert_eq!(answers[35..], late);
 }
 
 #[test]
