@@ -11,9 +11,10 @@ use lib.ListN.{length}
 use lib.Seq.{take-all}
 use Rattle.whole.proofs.Truth.{never, and, both, by-test}
 use Rattle.whole.proofs.Parts.{eqZ-yes}
-use Rattle.pid.specs.declared.record.Loop.{Loop}
-use Rattle.pid.specs.Record.{valid}
-use Rattle.pid.specs.Law.{refusalOf, stepOf}
+use Rattle.record.specs.declared.Loop.{Loop}
+use Rattle.record.specs.Record.{valid}
+use Rattle.record.specs.Refusals.{refusalOf}
+use Rattle.pid.specs.Law.{stepOf}
 use Rattle.command.specs.Sequence.{after, each}
 use Rattle.pid.specs.Run.{accepted, unbroken, shares}
 use Rattle.pid.proofs.Shares.{run-shares}

@@ -11,7 +11,7 @@ use lib.ListN.{length}
 use Rattle.whole.proofs.Truth.{never, and, by-test, cond-no, zero-if, zero-else}
 use Rattle.temperature.specs.Temperature.{firstBad, firstCode}
 use Rattle.window.specs.Means.{frontFilled}
-use Rattle.pid.specs.Record.{guardOf, valid}
+use Rattle.record.specs.Record.{guardOf, valid}
 use Rattle.pid.specs.Play.{hasPlace, placed, playRefusal}
 use Rattle.memory.proofs.Order.{neither}
 use Rattle.delivery.specs.declared.numbered.Numbered.{Numbered}

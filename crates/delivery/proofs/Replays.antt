@@ -12,9 +12,10 @@ use Rattle.temperature.specs.Temperature.{firstCode}
 use Rattle.window.specs.Means.{frontFilled}
 use Rattle.command.specs.declared.Command.{Command}
 use Rattle.command.specs.declared.Command.the-variants.{Sample}
-use Rattle.pid.specs.declared.record.Loop.{Loop}
-use Rattle.pid.specs.Record.{guardOf}
-use Rattle.pid.specs.Law.{refusalOf, stepOf}
+use Rattle.record.specs.declared.Loop.{Loop}
+use Rattle.record.specs.Record.{guardOf}
+use Rattle.record.specs.Refusals.{refusalOf}
+use Rattle.pid.specs.Law.{stepOf}
 use Rattle.command.specs.Sequence.{each}
 use Rattle.pid.specs.declared.play.Played.{Played}
 use Rattle.pid.specs.Play.{afterSamples, outputsOf, playRefusal, playedOf, wroteOf}

@@ -12,9 +12,10 @@ use Rattle.whole.specs.Numbers.{inside}
 use Rattle.whole.proofs.Truth.{and, by-test, cond-yes, cond-no, push}
 use Rattle.settings.specs.declared.Settings.{Settings}
 use Rattle.command.specs.Command.{same}
-use Rattle.pid.specs.Record.{valid}
-use Rattle.pid.specs.Law.{refusalOf, stepOf}
-use Rattle.pid.proofs.Sound.{holds-of}
+use Rattle.record.specs.Record.{valid}
+use Rattle.record.specs.Refusals.{refusalOf}
+use Rattle.pid.specs.Law.{stepOf}
+use Rattle.record.proofs.Rules.{holds-of}
 use Rattle.pid.proofs.Kept.{step-valid}
 use Rattle.pid.proofs.Obeys.{settings-stay}
 use Rattle.memory.specs.declared.Entry.{Entry}

@@ -6,11 +6,11 @@ use lib.IntN.{ℤ, pos}
 use lib.ListN.{replicate}
 use Rattle.command.specs.declared.Command.{Command}
 use Rattle.command.specs.declared.Command.the-variants.{Sample, Hold, Put, Automatic, Target, Set}
-use Rattle.pid.specs.declared.record.Loop.{Loop}
-use Rattle.pid.specs.Units.{fine}
+use Rattle.record.specs.declared.Loop.{Loop}
+use Rattle.record.specs.Units.{fine}
 use Rattle.settings.specs.SettingsC.{settingsC}
 use Rattle.window.specs.Window.{freshWindow}
-use Rattle.pid.specs.Record.{freshOf}
+use Rattle.record.specs.Record.{freshOf}
 use Rattle.memory.specs.Memory.{lastNumber, window, entryOf}
 use Rattle.delivery.specs.declared.numbered.Numbered.{Numbered}
 use Rattle.delivery.specs.declared.numbered.Delivered.{Delivered}

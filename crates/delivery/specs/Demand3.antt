@@ -12,9 +12,10 @@ use mathlib.Core.List.{List, [], _∷_}
 use lib.IntN.{ℤ}
 use lib.ListN.{length, take}
 use Rattle.command.specs.declared.Command.{Command}
-use Rattle.pid.specs.declared.record.Loop.{Loop}
+use Rattle.record.specs.declared.Loop.{Loop}
 use Rattle.command.specs.Command.{same}
-use Rattle.pid.specs.Law.{refusalOf, stepOf}
+use Rattle.record.specs.Refusals.{refusalOf}
+use Rattle.pid.specs.Law.{stepOf}
 use Rattle.command.specs.Sequence.{after, each}
 use Rattle.memory.specs.declared.Last.{Last}
 use Rattle.memory.specs.declared.Last.the-variants.{Nothing, Kept as Last·Kept}

@@ -7,9 +7,11 @@ use lib.Dec.{eqb}
 use lib.IntN.{pos}
 use Rattle.settings.specs.declared.Settings.{Settings}
 use Rattle.command.specs.declared.Command.{Command}
-use Rattle.pid.specs.declared.record.Loop.{Loop}
-use Rattle.pid.specs.Record.{blankLoop, valid, madeOf as Loop·madeOf}
-use Rattle.pid.specs.Law.{refusalOf, stepOf}
+use Rattle.record.specs.declared.Loop.{Loop}
+use Rattle.record.specs.Record.{blankLoop, valid}
+use Rattle.record.specs.Record.{madeOf as Loop·madeOf}
+use Rattle.record.specs.Refusals.{refusalOf}
+use Rattle.pid.specs.Law.{stepOf}
 use Rattle.memory.specs.declared.Entry.{Entry}
 use Rattle.memory.specs.declared.Found.{Found}
 use Rattle.memory.specs.declared.Found.the-variants.{Old, Reused, Repeated, Ahead, Next}

@@ -9,7 +9,7 @@ use Rattle.temperature.specs.Temperature.{firstBad, firstCode}
 use Rattle.window.specs.Means.{frontFilled}
 use Rattle.command.specs.declared.Command.{Command}
 use Rattle.command.specs.declared.Command.the-variants.{Sample}
-use Rattle.pid.specs.Record.{guardOf, valid}
+use Rattle.record.specs.Record.{guardOf, valid}
 use Rattle.pid.specs.Play.{placed}
 use Rattle.command.specs.Sequence.{after, each}
 use Rattle.memory.specs.Memory.{lastNumber}

@@ -5,7 +5,8 @@ use command::Command;
 use memory::Entry;
 use memory::Found;
 use memory::Memory;
-use pid::record::Loop;
+use pid::law::obey;
+use record::Loop;
 use settings::Settings;
 
 pub struct Numbered {
@@ -136,7 +137,7 @@ impl Numbered {
         ensures { λ r. ⌜ r ≡ triedOf self number c ⌝ }
     {
         let l = self.state;
-        let tried = l.obey(c);
+        let tried = obey(l, c);
         let code = tried.code;
         if code == 10 {
             return self.broken();

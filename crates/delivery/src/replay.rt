@@ -6,6 +6,7 @@ ghost use lib.ListN.{length};
 ghost use Rattle.delivery.specs.Numbered.{memoryOk};
 ghost use Rattle.delivery.specs.Replay.{numbersLeft, refusedOf, stoppedOf, replayedOf, writtenOf};
 use crate::numbered::Numbered;
+use pid::play::play;
 
 pub struct Replayed {
     pub code: u8,
@@ -44,7 +45,7 @@ impl Numbered {
         ensures { λ _. ⌜ now (out .exit) ≡ writtenOf self (self .memory .number + 1) (now (samples .entry)) (now (out .entry)) ⌝ }
     {
         let l = self.state;
-        let played = l.play(samples, out);
+        let played = play(l, samples, out);
         let code = played.code;
         if code != 0 {
             return self.refused(code, played.place);

@@ -14,9 +14,10 @@ use Rattle.command.specs.Command.{same}
 use Rattle.command.specs.Sequence.{after, each}
 use Rattle.command.proofs.Same.{same-equal, same-self}
 use Rattle.command.proofs.Sequences.{after-through, each-through}
-use Rattle.pid.specs.Record.{valid}
-use Rattle.pid.specs.Law.{refusalOf, stepOf}
-use Rattle.pid.proofs.Sound.{Holds, holds-of}
+use Rattle.record.specs.Record.{valid}
+use Rattle.record.specs.Refusals.{refusalOf}
+use Rattle.pid.specs.Law.{stepOf}
+use Rattle.record.proofs.Rules.{Holds, holds-of}
 use Rattle.memory.specs.declared.Last.{Last}
 use Rattle.memory.specs.declared.Last.the-variants.{Nothing, Kept}
 use Rattle.memory.specs.declared.Found.{Found}

@@ -14,11 +14,13 @@ use Rattle.settings.specs.Table.{reach}
 use Rattle.command.specs.declared.Command.{Command}
 use Rattle.command.specs.declared.Command.the-variants.{Sample, Hold, Put, Automatic, Target, Set}
 use Rattle.window.specs.Window.{freshWindow}
-use Rattle.pid.specs.declared.record.Loop.{Loop}
-use Rattle.pid.specs.Units.{F, B, fineReach}
-use Rattle.pid.specs.Record.{freshOf, guardOf, valid}
-use Rattle.pid.specs.Law.{signOf, fixedOf, movingOf, readAt, sampleOf, stepOf, refusalOf, lawOf}
-use Rattle.pid.proofs.Sound.{Holds, holds-of, within-table, fixed-ok}
+use Rattle.record.specs.declared.Loop.{Loop}
+use Rattle.record.specs.Units.{F, B, fineReach}
+use Rattle.record.specs.Record.{freshOf, guardOf, valid}
+use Rattle.record.specs.Refusals.{refusalOf}
+use Rattle.pid.specs.Law.{signOf, fixedOf, movingOf, readAt, sampleOf, stepOf, lawOf}
+use Rattle.record.proofs.Rules.{Holds, holds-of, within-table}
+use Rattle.pid.proofs.Sound.{fixed-ok}
 use Rattle.pid.proofs.Shapes.{fixed-is}
 use Rattle.mirror.specs.Mirror.{Mirror, ofAction, ofTemperatures, flipTemperature, flipAction, flipSettings, flipCommand, flipLoop, flipObeyed}
 use Rattle.mirror.proofs.Settings.{range-neg, range-temperature, zero-temperature, table-mirror, ordered-mirror}

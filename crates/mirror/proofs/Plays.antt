@@ -13,10 +13,10 @@ use Rattle.temperature.specs.Temperature.{firstCode}
 use Rattle.window.specs.Means.{frontFilled}
 use Rattle.command.specs.declared.Command.the-variants.{Sample}
 use Rattle.command.specs.Sequence.{after, each}
-use Rattle.pid.specs.declared.record.Loop.{Loop}
-use Rattle.pid.specs.Record.{guardOf, valid}
+use Rattle.record.specs.declared.Loop.{Loop}
+use Rattle.record.specs.Record.{guardOf, valid}
 use Rattle.pid.specs.Play.{sampled, afterSamples, outputsOf, playRefusal, playedOf, wroteOf}
-use Rattle.pid.proofs.Sound.{holds-of}
+use Rattle.record.proofs.Rules.{holds-of}
 use Rattle.pid.proofs.Kept.{step-valid}
 use Rattle.pid.proofs.Plays.{good-first, playable}
 use Rattle.mirror.specs.Mirror.{Mirror, flipTemperature, flipLoop, flipPlayed}

@@ -9,7 +9,7 @@ use Rattle.whole.proofs.Truth.{push}
 use Rattle.command.specs.declared.Command.{Command}
 use Rattle.command.specs.declared.Command.the-variants.{Sample}
 use Rattle.command.specs.Sequence.{each}
-use Rattle.pid.specs.Record.{guardOf}
+use Rattle.record.specs.Record.{guardOf}
 use Rattle.memory.specs.Walk.{Delivery, Answer}
 use Rattle.delivery.specs.declared.numbered.Numbered.{Numbered}
 use Rattle.delivery.specs.Demand3.{answered, handedBack}

@@ -7,7 +7,7 @@ use Rattle.whole.proofs.Lists.{map-twice}
 use Rattle.whole.proofs.Lin.{Lin, at, lins}
 use Rattle.command.specs.declared.Command.{Command}
 use Rattle.command.specs.declared.Command.the-variants.{Sample, Hold, Put, Automatic, Target, Set}
-use Rattle.pid.specs.declared.record.Loop.{Loop}
+use Rattle.record.specs.declared.Loop.{Loop}
 use Rattle.memory.specs.declared.Last.{Last}
 use Rattle.memory.specs.declared.Last.the-variants.{Nothing, Kept}
 use Rattle.memory.specs.declared.Entry.{Entry}

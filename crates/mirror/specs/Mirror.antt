@@ -9,7 +9,7 @@ use Rattle.command.specs.declared.Command.{Command}
 use Rattle.command.specs.declared.Command.the-variants.{Sample, Hold, Put, Automatic, Target, Set}
 use Rattle.command.specs.Command.{valueOf, secondOf}
 use Rattle.window.specs.declared.Window.{Window}
-use Rattle.pid.specs.declared.record.Loop.{Loop}
+use Rattle.record.specs.declared.Loop.{Loop}
 use Rattle.pid.specs.declared.law.Obeyed.{Obeyed}
 use Rattle.pid.specs.declared.play.Played.{Played}
 use Rattle.memory.specs.declared.Last.{Last}

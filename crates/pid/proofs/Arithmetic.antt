@@ -12,7 +12,8 @@ use Rattle.whole.proofs.Truth.{chosen}
 use Rattle.whole.proofs.Parts.{zs, is-pos, Between}
 use Rattle.whole.proofs.Lin.{Lin, at, lins}
 use Rattle.whole.proofs.Num.{Num, nums, stays}
-use Rattle.pid.specs.Units.{F, part, rounded}
+use Rattle.record.specs.Units.{F}
+use Rattle.pid.specs.Units.{part, rounded}
 use Rattle.settings.specs.Table.{share}
 use Rattle.pid.specs.Bounds.{SlopeOk}
 use Rattle.pid.specs.Sample.{lesser, greater, limited, ramped, filtered, derivative, clamped}

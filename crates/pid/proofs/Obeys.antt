@@ -1,23 +1,18 @@
 -- What the plain law answers, case by case: the crates above look no further into it.
-use Prim.Native.Nat.{ℕ, _-_}
 use mathlib.Core.Path.{_≡_, refl, _∙_}
 use mathlib.Core.Bool.{true, false}
-use native.Mathlib.Omega.{arith}
 use borrow.Author.Tests.{eq-eqb, ne-eqb}
 use mathlib.Core.List.{List, [], _∷_}
 use lib.Dec.{eqb}
-use lib.IntN.{ℤ, pos}
-use Rattle.whole.specs.Numbers.{plus, inside}
+use Rattle.whole.specs.Numbers.{plus}
 use Rattle.whole.proofs.Truth.{chosen}
-use Rattle.settings.specs.Table.{sets, inReach}
-use Rattle.temperature.specs.Temperature.{codeOf}
-use Rattle.temperature.proofs.Earliest.{one-of}
 use Rattle.command.specs.Sequence.{after}
 use Rattle.command.specs.declared.Command.{Command}
 use Rattle.command.specs.declared.Command.the-variants.{Sample, Hold, Put, Automatic, Target, Set}
-use Rattle.pid.specs.declared.record.Loop.{Loop}
-use Rattle.pid.specs.Record.{inRates, guardOf, valid}
-use Rattle.pid.specs.Law.{sampleOf, refusalOf, stepOf, lawOf}
+use Rattle.record.specs.declared.Loop.{Loop}
+use Rattle.record.specs.Record.{valid}
+use Rattle.record.specs.Refusals.{refusalOf}
+use Rattle.pid.specs.Law.{sampleOf, stepOf, lawOf}
 use Rattle.pid.specs.Run.{obeyed}
 
 module _ (l : Loop) (c : Command) where
@@ -47,23 +42,3 @@ pub settings-after : (l : Loop) (cs : List Command) → obeyed l cs .settings �
 unfolding after
 settings-after l [] = refl
 settings-after l (c ∷ cs) = settings-after (stepOf l c) cs ∙ settings-stay l c
-
--- a sample is refused as its raw temperature is
-pub sample-code : (l : Loop) (pv : ℤ) → refusalOf l (Sample pv) ≡ codeOf (guardOf l) pv
-unfolding refusalOf
-sample-code l pv = refl
-
--- 10 is no refusal of a command's content
-pub never-ten : (l : Loop) (c : Command) → refusalOf l c ≡ 10 → ⊥
-unfolding refusalOf
-never-ten l (Sample pv) = one-of (λ (n : ℕ). n ≡ 10 → ⊥) (guardOf l) pv (λ e. omega (arith, e)) (λ e. omega (arith, e)) (λ e. omega (arith, e))
-never-ten l Hold = λ e. omega (arith, e)
-never-ten l (Put x) =
-    chosen (λ (n : ℕ). n ≡ 10 → ⊥) (l .automatic) (λ _ e. omega (arith, e))
-    (λ _. chosen (λ (n : ℕ). n ≡ 10 → ⊥) (inside (l .settings .lo) (l .settings .hi) x) (λ _ e. omega (arith, e)) (λ _ e. omega (arith, e)))
-never-ten l Automatic = λ e. omega (arith, e)
-never-ten l (Target t r) =
-    chosen (λ (n : ℕ). n ≡ 10 → ⊥) (inReach t)
-    (λ _. chosen (λ (n : ℕ). n ≡ 10 → ⊥) (inRates r) (λ _ e. omega (arith, e)) (λ _ e. omega (arith, e)))
-    (λ _ e. omega (arith, e))
-never-ten l (Set k) = chosen (λ (n : ℕ). n ≡ 10 → ⊥) (inside (pos 0) (pos (sets - 1)) k) (λ _ e. omega (arith, e)) (λ _ e. omega (arith, e))

@@ -3,7 +3,6 @@ use Prim.Native.Nat.{ℕ, _<_, _≤_}
 use mathlib.Core.Path.{_≡_, refl, sym, ap, _∙_}
 use mathlib.Core.Bool.{true, false}
 use mathlib.Core.List.{List, [], _∷_, map}
-use native.Mathlib.Omega.{arith}
 use borrow.Author.Tests.{eq-eqb, eqb-true, eqb-false, ne-eqb, lt-ltb, le-ltb, ltb-false}
 use lib.Dec.{eqb, ltb}
 use lib.IntN.{ℤ, pos}
@@ -19,17 +18,18 @@ use Rattle.temperature.proofs.Ranged.{all-ranged}
 use Rattle.window.proofs.Good.{means-ranged}
 use Rattle.window.specs.Means.{afterAll, meansOf, frontFilled}
 use Rattle.command.specs.declared.Command.the-variants.{Sample}
-use Rattle.pid.specs.declared.record.Loop.{Loop}
+use Rattle.record.specs.declared.Loop.{Loop}
 use Rattle.pid.specs.declared.sample.Moving.{Moving}
 use Rattle.pid.specs.declared.play.Played.{Played}
-use Rattle.pid.specs.Record.{guardOf, valid}
+use Rattle.record.specs.Record.{guardOf, valid}
 use Rattle.pid.specs.Sample.{actedOf, movedOf}
-use Rattle.pid.specs.Law.{withMoving, fixedOf, sampleOf, refusalOf, stepOf}
+use Rattle.record.specs.Refusals.{refusalOf}
+use Rattle.pid.specs.Law.{withMoving, fixedOf, sampleOf, stepOf}
 use Rattle.command.specs.Sequence.{after, each}
 use Rattle.command.proofs.Sequences.{after-through}
 use Rattle.pid.specs.Play.{sampled, afterSamples, outputsOf, playRefusal, refusedOf, placed, playedOf, wroteOf, readsOf, movedAfter, movedOutputs}
-use Rattle.pid.proofs.Sound.{holds-of}
-use Rattle.pid.proofs.Obeys.{sample-code}
+use Rattle.record.proofs.Rules.{holds-of}
+use Rattle.record.proofs.Refused.{sample-code}
 use Rattle.pid.proofs.Turns.{each-length}
 
 -- ---- the law's samples are done on the window and on what moves

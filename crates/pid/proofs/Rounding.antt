@@ -11,7 +11,8 @@ use Rattle.whole.proofs.Parts.{zs, Between}
 use Rattle.whole.proofs.Lin.{Lin, at, lins, floor-low, floor-high}
 use Rattle.whole.proofs.Num.{Num}
 use Rattle.whole.proofs.Nearest.{nearest-only, nearest-neg, nearest-mono, nearest-exact, nearest-within, share-high as nearest-share-high, share-low as nearest-share-low}
-use Rattle.pid.specs.Units.{F, product, rounded}
+use Rattle.record.specs.Units.{F}
+use Rattle.pid.specs.Units.{product, rounded}
 
 -- the opposite of x gives the opposite result
 pub rounded-neg : (x : ℤ) → rounded (negℤ x) ≡ negℤ (rounded x)

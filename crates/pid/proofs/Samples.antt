@@ -13,7 +13,7 @@ use Rattle.pid.specs.declared.sample.Moving.{Moving}
 use Rattle.pid.specs.declared.sample.Sensed.{Sensed}
 use Rattle.pid.specs.Sample.{newY, sensedOf, transferred, roomOf, vOf, limitedV, backCalculated, integrated, newI, ordinaryOf, actedOf}
 use Rattle.settings.specs.Table.{reach}
-use Rattle.pid.specs.Units.{B}
+use Rattle.record.specs.Units.{B}
 use Rattle.pid.specs.Bounds.{FixedOk, MovingOk, SensedOk}
 use Rattle.pid.proofs.Rounding.{rounded-within}
 use Rattle.pid.proofs.Arithmetic.{ramped-within, filtered-within, derivative-within, limited-within, clamped-within}

@@ -3,7 +3,7 @@ use mathlib.Core.Path.{_≡_}
 use mathlib.Core.Bool.{Bool}
 use lib.IntN.{ℤ}
 use Rattle.window.specs.declared.Window.{Window}
-use Rattle.pid.specs.declared.record.Loop.{Loop}
+use Rattle.record.specs.declared.Loop.{Loop}
 use Rattle.pid.specs.declared.sample.Fixed.{Fixed}
 use Rattle.pid.specs.declared.sample.Moving.{Moving}
 use Rattle.pid.specs.declared.sample.Sensed.{Sensed}

@@ -5,7 +5,8 @@ use Rattle.whole.specs.Numbers.{Within}
 use Rattle.pid.specs.declared.sample.Fixed.{Fixed}
 use Rattle.pid.specs.declared.sample.Moving.{Moving}
 use Rattle.pid.specs.declared.sample.Sensed.{Sensed}
-use Rattle.pid.specs.Units.{B, fineReach, part, excessMost}
+use Rattle.record.specs.Units.{B, fineReach}
+use Rattle.pid.specs.Units.{part, excessMost}
 use Rattle.settings.specs.Table.{reach, fastest, gain, share}
 
 pub record FixedOk (f : Fixed) : Type 0 where

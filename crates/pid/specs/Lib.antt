@@ -1,5 +1,4 @@
 pub mod Units
-pub mod Record
 pub mod Sample
 pub mod Bounds
 pub mod Law

@@ -7,9 +7,10 @@ use Rattle.settings.specs.Table.{inReach}
 use Rattle.window.specs.Window.{freshWindow}
 use Rattle.command.specs.declared.Command.{Command}
 use Rattle.command.specs.declared.Command.the-variants.{Sample, Hold, Put, Automatic, Target, Set}
-use Rattle.pid.specs.declared.record.Loop.{Loop}
+use Rattle.record.specs.declared.Loop.{Loop}
 use Rattle.pid.specs.Sample.{movedOf}
-use Rattle.pid.specs.Law.{withMoving, fixedOf, movingOf, stepOf, refusalOf}
+use Rattle.record.specs.Refusals.{refusalOf}
+use Rattle.pid.specs.Law.{withMoving, fixedOf, movingOf, stepOf}
 
 unfoldable pub plainSampleOf : Loop → ℤ → Loop
 plainSampleOf l pv = withMoving l (l .window) pv (movedOf (fixedOf l) (movingOf l) pv)

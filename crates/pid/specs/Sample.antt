@@ -6,7 +6,8 @@ use lib.Signed.{ltZ}
 use Rattle.pid.specs.declared.sample.Fixed.{Fixed}
 use Rattle.pid.specs.declared.sample.Moving.{Moving}
 use Rattle.pid.specs.declared.sample.Sensed.{Sensed}
-use Rattle.pid.specs.Units.{F, B, rounded}
+use Rattle.record.specs.Units.{F, B}
+use Rattle.pid.specs.Units.{rounded}
 
 -- "the smaller of"
 unfoldable pub lesser : ℤ → ℤ → ℤ

@@ -2,5 +2,4 @@
 // "The plain law knows no numbers."
 pub mod law;
 pub mod play;
-pub mod record;
 mod sample;

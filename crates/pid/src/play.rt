@@ -5,14 +5,18 @@ ghost use Prim.Native.Nat.{_≤_};
 ghost use lib.ListN.{length, take};
 ghost use Rattle.temperature.specs.Temperature.{firstCode, ranged};
 ghost use Rattle.window.specs.Means.{frontFilled};
-ghost use Rattle.pid.specs.Record.{guardOf, valid};
+ghost use Rattle.record.specs.Record.{guardOf, valid};
 ghost use Rattle.pid.specs.Bounds.{FixedOk, MovingOk};
 ghost use Rattle.pid.specs.Play.{movedAfter, movedOutputs, readsOf, afterSamples, outputsOf, refusedOf, playedOf, wroteOf};
-use crate::record::Loop;
+use crate::law::fixed;
+use crate::law::mean;
+use crate::law::moving;
+use crate::law::with_moving;
 use crate::sample::Fixed;
 use crate::sample::Moving;
 use crate::sample::act;
 use crate::sample::sense;
+use record::Loop;
 use temperature::raw_after;
 
 pub struct Played {
@@ -40,49 +44,47 @@ fn run(f: Fixed, start: Moving, n: usize, out: &mut [i32]) -> Moving
     m
 }
 
-impl Loop {
-    fn refused(self, code: u8, place: usize) -> Played
-        ensures { λ r. ⌜ r ≡ refusedOf self code place ⌝ }
-    {
-        Played {
-            code,
-            place,
-            state: self,
-        }
+fn refused(l: Loop, code: u8, place: usize) -> Played
+    ensures { λ r. ⌜ r ≡ refusedOf l code place ⌝ }
+{
+    Played {
+        code,
+        place,
+        state: l,
     }
+}
 
-    // The means stand in the list: every sample is good, and has its place.
-    fn give(self, samples: &[i32], out: &mut [i32]) -> Loop
-        requires { ⌜ (valid self ≡ true) × (firstCode (guardOf self) (now samples) ≡ 0) × (length (now samples) ≤ length (now out)) × (take (length (now samples)) (now out) ≡ readsOf self (now samples)) ⌝ }
-        ensures { λ r. ⌜ r ≡ afterSamples self (now (samples .entry)) ⌝ }
-        ensures { λ _. ⌜ now (out .exit) ≡ frontFilled (outputsOf self (now (samples .entry))) (now (out .entry)) ⌝ }
-    {
-        let m = run(self.fixed(), self.moving(), samples.len(), out);
-        let window = self.window;
-        self.with_moving(window.after(samples), raw_after(self.raw, samples), m)
+// The means stand in the list: every sample is good, and has its place.
+fn give(l: Loop, samples: &[i32], out: &mut [i32]) -> Loop
+    requires { ⌜ (valid l ≡ true) × (firstCode (guardOf l) (now samples) ≡ 0) × (length (now samples) ≤ length (now out)) × (take (length (now samples)) (now out) ≡ readsOf l (now samples)) ⌝ }
+    ensures { λ r. ⌜ r ≡ afterSamples l (now (samples .entry)) ⌝ }
+    ensures { λ _. ⌜ now (out .exit) ≡ frontFilled (outputsOf l (now (samples .entry))) (now (out .entry)) ⌝ }
+{
+    let m = run(fixed(l), moving(l), samples.len(), out);
+    let window = l.window;
+    with_moving(l, window.after(samples), raw_after(l.raw, samples), m)
+}
+
+// 10, then 12, then 4 or 19 with the place of the earliest bad sample; else every sample is given once.
+pub fn play(l: Loop, samples: &[i32], out: &mut [i32]) -> Played
+    ensures { λ r. ⌜ r ≡ playedOf l (now (samples .entry)) (length (now (out .entry))) ⌝ }
+    ensures { λ _. ⌜ now (out .exit) ≡ wroteOf l (now (samples .entry)) (now (out .entry)) ⌝ }
+{
+    if !l.is_valid() {
+        return refused(l, 10, 0);
     }
-
-    // 10, then 12, then 4 or 19 with the place of the earliest bad sample; else every sample is given once.
-    pub fn play(self, samples: &[i32], out: &mut [i32]) -> Played
-        ensures { λ r. ⌜ r ≡ playedOf self (now (samples .entry)) (length (now (out .entry))) ⌝ }
-        ensures { λ _. ⌜ now (out .exit) ≡ wroteOf self (now (samples .entry)) (now (out .entry)) ⌝ }
-    {
-        if !self.is_valid() {
-            return self.refused(10, 0);
-        }
-        if out.len() < samples.len() {
-            return self.refused(12, 0);
-        }
-        let window = self.window;
-        let bad = window.means(self.mean(), self.guard(), samples, out);
-        let code = bad.code;
-        if code != 0 {
-            return self.refused(code, bad.place);
-        }
-        Played {
-            code: 0,
-            place: 0,
-            state: self.give(samples, out),
-        }
+    if out.len() < samples.len() {
+        return refused(l, 12, 0);
+    }
+    let window = l.window;
+    let bad = window.means(mean(l), l.guard(), samples, out);
+    let code = bad.code;
+    if code != 0 {
+        return refused(l, code, bad.place);
+    }
+    Played {
+        code: 0,
+        place: 0,
+        state: give(l, samples, out),
     }
 }

@@ -3,10 +3,11 @@
 ghost use mathlib.Core.Path.{_≡_};
 ghost use Rattle.whole.specs.Numbers.{Within};
 ghost use Rattle.settings.specs.Table.{reach};
-ghost use Rattle.pid.specs.Units.{fineReach, product, excessMost, rounded};
+ghost use Rattle.record.specs.Units.{fineReach};
+ghost use Rattle.pid.specs.Units.{product, excessMost, rounded};
 ghost use Rattle.pid.specs.Bounds.{FixedOk, MovingOk, SensedOk, RampOk, FilterOk, SlopeOk, ClampOk, BackOk};
 ghost use Rattle.pid.specs.Sample.{lesser, greater, limited, ramped, filtered, derivative, sensedOf, shareOf, vOf, roomOf, clamped, backCalculated, integrated, ordinaryOf, actedOf};
-use crate::record::Loop;
+use record::Loop;
 
 // What stays while samples come: the sign s, the limits times F, target, rate, mode, and the gain set in force.
 pub struct Fixed {

@@ -6,9 +6,10 @@ use Rattle.temperature.specs.Temperature.{codeOf}
 use Rattle.pid.specs.Units.{rounded}
 use Rattle.settings.specs.SettingsC.{settingsC}
 use Rattle.window.specs.Window.{freshWindow, taken, meanAt, windowOk}
-use Rattle.pid.specs.Record.{freshOf, valid}
+use Rattle.record.specs.Record.{freshOf, valid}
 use Rattle.pid.specs.Sample.{lesser, greater, limited, ramped, filtered, derivative, sensedOf, clamped, backCalculated, integrated, actedOf}
-use Rattle.pid.specs.Law.{sampleOf, stepOf, refusalOf}
+use Rattle.record.specs.Refusals.{refusalOf}
+use Rattle.pid.specs.Law.{sampleOf, stepOf}
 use Rattle.memory.specs.Memory.{window, memoryOk, remembered, isLast, foundIn, foundBy}
 use Rattle.delivery.specs.Numbered.{newOf, servedOf, deliveredOf}
 use Rattle.delivery.specs.Bench.{log, played, expected}

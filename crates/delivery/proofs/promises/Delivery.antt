@@ -12,12 +12,13 @@ use Rattle.settings.specs.declared.Settings.{Settings}
 use Rattle.settings.specs.Table.{rowsOf}
 use Rattle.settings.specs.Settings.{inTable}
 use Rattle.command.specs.declared.Command.{Command}
-use Rattle.pid.specs.Units.{fine}
-use Rattle.pid.specs.Record.{inB, valid}
-use Rattle.pid.specs.Law.{refusalOf, stepOf}
+use Rattle.record.specs.Units.{fine}
+use Rattle.record.specs.Record.{inB, valid}
+use Rattle.record.specs.Refusals.{refusalOf}
+use Rattle.pid.specs.Law.{stepOf}
 use Rattle.window.specs.Window.{freshWindow, windowOk}
-use Rattle.pid.proofs.Sound.{holds-of}
-use Rattle.pid.proofs.promises.Demand1 as law
+use Rattle.record.proofs.Rules.{holds-of}
+use Rattle.record.proofs.promises.Made as loops
 use Rattle.memory.specs.Memory.{window, memoryOk as Memory·memoryOk}
 use Rattle.memory.proofs.Rules.{no-memory-ok}
 use Rattle.delivery.specs.declared.numbered.Numbered.{Numbered}
@@ -28,11 +29,11 @@ use Rattle.delivery.proofs.Served.{by-delivery, kept-one, kept-twice, d
 
 -- "Every loop the software makes keeps them"
 pub made-valid : (s : Settings) → madeOf s .code ≡ 0 → validOf (madeOf s .state) ≡ true
-made-valid s e = and (no-memory-ok _ _) (law.made-valid s e)
+made-valid s e = and (no-memory-ok _ _) (loops.made-valid s e)
 
 -- "The blank breaks the state rules (lo is not below hi)."
 pub blank-broken : validOf blankOf ≡ false
-blank-broken = ap₂ (λ (a b : Bool). a && b) (no-memory-ok _ _) law.blank-broken
+blank-broken = ap₂ (λ (a b : Bool). a && b) (no-memory-ok _ _) loops.blank-broken
 
 -- the record that comes back keeps the state rules
 pub again-valid : (s : Numbered) (n : ℕ) (c : Command) → validOf s ≡ true → validOf (deliveredOf s n c .state) ≡ true

@@ -21,11 +21,13 @@ use Rattle.command.specs.declared.Command.{Command}
 use Rattle.command.specs.declared.Command.the-variants.{Sample, Target}
 use Rattle.command.specs.Sequence.{after}
 use Rattle.command.proofs.Sequences.{after-append}
-use Rattle.pid.specs.declared.record.Loop.{Loop}
-use Rattle.pid.specs.Units.{fine}
-use Rattle.pid.specs.Record.{freshOf, valid}
+use Rattle.record.specs.declared.Loop.{Loop}
+use Rattle.record.specs.Units.{fine}
+use Rattle.record.specs.Record.{freshOf, valid}
 use Rattle.pid.specs.Sample.{actedOf}
-use Rattle.pid.specs.Law.{withMoving, withMode, sampleOf, refusalOf, stepOf}
+use Rattle.record.specs.Commands.{withMode}
+use Rattle.record.specs.Refusals.{refusalOf}
+use Rattle.pid.specs.Law.{withMoving, sampleOf, stepOf}
 use Rattle.pid.specs.Plain.{plainRefusalOf}
 use Rattle.pid.specs.Run.{obeyed, accepted, samples}
 use Rattle.pid.proofs.Obeys.{settings-after}

@@ -20,8 +20,9 @@ use Rattle.temperature.specs.Temperature.{codeOf, firstCode}
 use Rattle.window.specs.Window.{freshWindow, taken, meanAt, windowOk}
 use Rattle.pid.specs.Units.{rounded}
 use Rattle.pid.specs.Sample.{lesser, greater, limited, ramped, filtered, derivative, sensedOf, clamped, backCalculated, integrated, actedOf}
-use Rattle.pid.specs.Record.{freshOf, guardOf, valid}
-use Rattle.pid.specs.Law.{sampleOf, refusalOf, stepOf}
+use Rattle.record.specs.Record.{freshOf, guardOf, valid}
+use Rattle.record.specs.Refusals.{refusalOf}
+use Rattle.pid.specs.Law.{sampleOf, stepOf}
 use Rattle.pid.specs.Play.{outputsOf}
 use Rattle.pid.proofs.Plays.{good-first}
 use Rattle.memory.specs.declared.Last.the-variants.{Kept}

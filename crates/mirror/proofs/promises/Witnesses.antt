@@ -14,11 +14,14 @@ use Rattle.command.specs.declared.Command.{Command}
 use Rattle.command.specs.declared.Command.the-variants.{Sample, Put, Automatic, Set}
 use Rattle.command.specs.Sequence.{after, each}
 use Rattle.window.specs.Window.{freshWindow, taken, meanAt, windowOk}
-use Rattle.pid.specs.declared.record.Loop.{Loop}
-use Rattle.pid.specs.Units.{F, fine, rounded}
-use Rattle.pid.specs.Record.{valid, madeOf as Loop·madeOf}
+use Rattle.record.specs.declared.Loop.{Loop}
+use Rattle.record.specs.Units.{F, fine}
+use Rattle.pid.specs.Units.{rounded}
+use Rattle.record.specs.Record.{valid}
+use Rattle.record.specs.Record.{madeOf as Loop·madeOf}
 use Rattle.pid.specs.Sample.{lesser, greater, limited, ramped, filtered, derivative, sensedOf, vOf, limitedV, clamped, backCalculated, integrated, actedOf}
-use Rattle.pid.specs.Law.{fixedOf, movingOf, readAt, sampleOf, stepOf, refusalOf, lawOf}
+use Rattle.record.specs.Refusals.{refusalOf}
+use Rattle.pid.specs.Law.{fixedOf, movingOf, readAt, sampleOf, stepOf, lawOf}
 use Rattle.pid.specs.Run.{sensedAt}
 use Rattle.pid.specs.Play.{playRefusal, wroteOf}
 use Rattle.memory.specs.Memory.{window, memoryOk, remembered, isLast, foundIn, foundBy}

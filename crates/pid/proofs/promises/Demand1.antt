@@ -1,33 +1,30 @@
 -- DEMAND 1, of the plain law. "From any record that passes 01's state rules, power stays within the loop's limits and the
 -- integral within 01's bound." "A refused call changes no loop."
 use mathlib.Core.Path.{_≡_, refl}
-use mathlib.Core.Bool.{true, false, cond}
-use borrow.Author.Tests.{eqb-true, eqb-false}
-use lib.Dec.{eqb}
+use mathlib.Core.Bool.{true, false}
 use lib.IntN.{ℤ, pos, _-ℤ_, _*ℤ_}
 use Rattle.whole.specs.Numbers.{Within, inside}
-use Rattle.whole.proofs.Truth.{chosen, cond-no, zero-if, zero-then}
+use Rattle.whole.proofs.Truth.{cond-no}
 use Rattle.whole.proofs.Num.{nums, stays}
-use Rattle.settings.specs.declared.Settings.{Settings}
-use Rattle.pid.specs.declared.record.Loop.{Loop}
+use Rattle.record.specs.declared.Loop.{Loop}
 use Rattle.command.specs.declared.Command.{Command}
-use Rattle.pid.specs.declared.record.Made.{Made}
 use Rattle.pid.specs.declared.law.Obeyed.{Obeyed}
 use Rattle.pid.specs.declared.sample.Fixed.{Fixed}
 use Rattle.pid.specs.declared.sample.Moving.{Moving}
 use Rattle.pid.specs.declared.sample.Sensed.{Sensed}
-use Rattle.pid.specs.Units.{F, part, product}
-use Rattle.settings.specs.Table.{reach, rowsOf, inReach}
-use Rattle.settings.specs.Settings.{blankSettings, settingsRefusal, inTable, ordered}
-use Rattle.pid.specs.Record.{freshOf, blankLoop, madeOf, inB, valid}
+use Rattle.record.specs.Units.{F}
+use Rattle.pid.specs.Units.{part, product}
+use Rattle.settings.specs.Table.{reach, inReach}
+use Rattle.record.specs.Record.{inB, valid}
 use Rattle.pid.specs.Sample.{sensedOf, shareOf, vOf, limitedV}
 use Rattle.pid.specs.Bounds.{FixedOk, MovingOk}
 use Rattle.pid.specs.Run.{sensedAt}
 use Rattle.pid.specs.Law.{fixedOf, movingOf, readAt, lawOf}
-use Rattle.pid.proofs.Sound.{valid-of, holds-of, fixed-ok, moving-ok, read-in}
+use Rattle.record.proofs.Rules.{holds-of}
+use Rattle.pid.proofs.Sound.{fixed-ok, moving-ok, read-in}
 use Rattle.pid.proofs.Samples.{sensed-ok}
 use Rattle.pid.proofs.Arithmetic.{limited-within}
-use Rattle.pid.proofs.Kept.{step-valid, fresh-holds, by-law}
+use Rattle.pid.proofs.Kept.{step-valid, by-law}
 
 -- the record that comes back keeps the state rules
 pub again : (l : Loop) (c : Command) → valid l ≡ true → valid (lawOf l c .state) ≡ true
@@ -51,23 +48,6 @@ refused-back l c =
 pub broken-ten : (l : Loop) (c : Command) → valid l ≡ false → lawOf l c ≡ record { code = 10; state = l }
 unfolding lawOf
 broken-ten l c v = cond-no _ _ v
-
--- "Every loop the software makes keeps them"
-pub made-valid : (s : Settings) → madeOf s .code ≡ 0 → valid (madeOf s .state) ≡ true
-unfolding madeOf
-made-valid s =
-    chosen (λ (m : Made). m .code ≡ 0 → valid (m .state) ≡ true) (eqb (settingsRefusal s) 0)
-    (λ e _. fresh (eqb-true (settingsRefusal s) 0 e)) (λ e z. absurd (eqb-false (settingsRefusal s) 0 e z))
-  where
-    fresh : settingsRefusal s ≡ 0 → valid (freshOf s) ≡ true
-    fresh z =
-        let t = zero-if (inTable s) (cond (ordered s) 0 16) 10 z in
-        valid-of (freshOf s) (fresh-holds s (t .0) (zero-then (ordered s) 15 (t .1)))
-
--- "The blank breaks the state rules (lo is not below hi)."
-pub blank-broken : valid blankLoop ≡ false
-unfolding valid blankLoop blankSettings inTable rowsOf
-blank-broken = refl
 
 -- ---- "All arithmetic fits in 64 bits": "Largest P, D and g: 8,388,608,000,000 each, so every product stays below
 -- 2,800,000,000,000,000,000." The numbers of a sample pv in the loop l, with x = pv × F and z what its steps 1 to 3 find

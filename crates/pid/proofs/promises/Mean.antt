@@ -15,11 +15,12 @@ use Rattle.window.proofs.Runs.{mean-one}
 use Rattle.command.specs.declared.Command.{Command}
 use Rattle.command.specs.declared.Command.the-variants.{Sample, Hold, Put, Automatic, Target, Set}
 use Rattle.command.specs.Sequence.{after, each}
-use Rattle.pid.specs.declared.record.Loop.{Loop}
+use Rattle.record.specs.declared.Loop.{Loop}
 use Rattle.pid.specs.Units.{rounded}
-use Rattle.pid.specs.Record.{freshOf, valid}
+use Rattle.record.specs.Record.{freshOf, valid}
 use Rattle.pid.specs.Sample.{lesser, greater, limited, ramped, filtered, derivative, sensedOf, movedOf, clamped, backCalculated, integrated, actedOf}
-use Rattle.pid.specs.Law.{withMoving, fixedOf, movingOf, sampleOf, stepOf, refusalOf}
+use Rattle.record.specs.Refusals.{refusalOf}
+use Rattle.pid.specs.Law.{withMoving, fixedOf, movingOf, sampleOf, stepOf}
 use Rattle.pid.specs.Plain.{plainSampleOf, plainStepOf, windowless}
 use Rattle.pid.specs.Run.{obeyed}
 use Rattle.pid.proofs.Obeys.{settings-stay}

@@ -10,8 +10,8 @@ use lib.ListN.{length}
 use Rattle.whole.proofs.Truth.{by-test}
 use Rattle.temperature.specs.Temperature.{firstCode}
 use Rattle.command.specs.declared.Command.the-variants.{Sample}
-use Rattle.pid.specs.declared.record.Loop.{Loop}
-use Rattle.pid.specs.Record.{guardOf, valid}
+use Rattle.record.specs.declared.Loop.{Loop}
+use Rattle.record.specs.Record.{guardOf, valid}
 use Rattle.command.specs.Sequence.{after}
 use Rattle.pid.specs.Play.{sampled, afterSamples, playRefusal, playedOf, wroteOf}
 use Rattle.pid.specs.Run.{obeyed}

@@ -9,8 +9,8 @@ use Rattle.whole.proofs.Truth.{chosen, cond-yes}
 use Rattle.settings.specs.declared.Settings.{Settings}
 use Rattle.settings.specs.Settings.{settingsRefusal}
 use Rattle.command.specs.declared.Command.the-variants.{Automatic}
-use Rattle.pid.specs.declared.record.Made.{Made}
-use Rattle.pid.specs.Record.{madeOf}
+use Rattle.record.specs.declared.Made.{Made}
+use Rattle.record.specs.Record.{madeOf}
 use Rattle.delivery.specs.declared.numbered.Numbered.{Numbered}
 use Rattle.delivery.specs.Numbered.{validOf}
 use Rattle.delivery.proofs.promises.Delivery.{made-valid, again-valid}

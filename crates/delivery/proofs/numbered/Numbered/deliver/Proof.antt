@@ -2,7 +2,7 @@ use mathlib.Core.Path.{_≡_, _∙_}
 use mathlib.Core.Bool.{cond}
 use borrow.Author.Tests.{not-true, not-false}
 use Rattle.whole.proofs.Truth.{so}
-use Rattle.pid.specs.Record.{valid}
+use Rattle.record.specs.Record.{valid}
 use Rattle.memory.specs.declared.Found.{Found}
 use Rattle.memory.specs.declared.Found.the-variants.{Old, Reused, Repeated, Ahead, Next}
 use Rattle.delivery.specs.Numbered.{brokenOf, servedOf, deliveredOf, settledOf, triedOf}

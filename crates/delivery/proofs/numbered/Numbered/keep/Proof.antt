@@ -1,6 +1,6 @@
 use mathlib.Core.Path.{ap, _∙_}
 use mir.Facts.{toZ-ofZ}
-use Rattle.pid.proofs.Fit.{loop-fit}
+use Rattle.record.proofs.Fit.{loop-fit}
 use Rattle.memory.specs.declared.Memory.{Memory}
 use borrow.Author.Needs.{needs}
 use Rattle.delivery.proofs.numbered.Numbered.keep.Statement.{statement}

@@ -1,5 +1,5 @@
 use mathlib.Core.Path.{ap, _∙_}
-use Rattle.pid.specs.declared.record.Made.{Made}
+use Rattle.record.specs.declared.Made.{Made}
 use Rattle.delivery.specs.declared.numbered.Numbered.{Numbered}
 use Rattle.delivery.specs.Numbered.{newOf}
 use borrow.Author.Needs.{needs}

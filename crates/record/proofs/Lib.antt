@@ -1,0 +1,5 @@
+pub mod Fit
+pub mod Rules
+pub mod Refused
+pub mod Kept
+pub mod promises

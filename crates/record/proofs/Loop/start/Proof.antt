@@ -1,0 +1,11 @@
+use Rattle.record.proofs.Loop.start.Statement.{statement}
+use Rattle.record.proofs.Loop.start.Tie as tie
+
+returns : tie.Need-returns
+returns c = rw (c .if1 .taken)
+
+returns-2 : tie.Need-returns-2
+returns-2 c = rw (c .if1 .left)
+
+pub start-spec : {M : Type 1} → statement M
+start-spec = tie.close (tie.spec returns returns-2)

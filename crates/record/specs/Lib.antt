@@ -1,0 +1,4 @@
+pub mod Units
+pub mod Record
+pub mod Refusals
+pub mod Commands
