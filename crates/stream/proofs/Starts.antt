@@ -12,7 +12,7 @@ use Rattle.settings.specs.Table.{lines, rowsOf, picked}
 use Rattle.settings.specs.Settings.{settingsOf, completed, filled, ordered, settingsRefusal}
 use Rattle.text.specs.declared.reader.Reading.{Reading}
 use Rattle.text.specs.Reader.{afterLine, lineCode, lineValue, readEnd, readFrom, headsIn, setsIn, readText}
-use Rattle.text.proofs.Rows.{form-long, headed, gained}
+use Rattle.writer.proofs.Rows.{form-long, headed, gained}
 use Rattle.text.proofs.Texts.{heads-in, sets-in}
 use Rattle.text.proofs.Forms.{text-back}
 

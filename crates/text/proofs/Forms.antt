@@ -25,10 +25,10 @@ use Rattle.settings.proofs.Forms.{picked-long, take-picked, drop-picked, picked
 use Rattle.word.specs.Decimal.{shown}
 use Rattle.word.specs.End.{begins}
 use Rattle.text.specs.declared.reader.Reading.{Reading}
-use Rattle.text.specs.Lines.{linesOf, Headed, both-lines, mean-alone, neither-line, Gained, full, short, textFor, textOf, longestFor, longestText}
+use Rattle.writer.specs.Lines.{linesOf, Headed, both-lines, mean-alone, neither-line, Gained, full, short, textFor, textOf, longestFor, longestText}
 use Rattle.text.specs.Reader.{ended, lineCode, afterLines, refused, readEnd, readFrom, headsIn, setsIn, readText}
-use Rattle.text.proofs.Rows.{lined, form-long, form-lined, form-next, form-parts, form-at, row-at, text-whole, headed, gained}
-use Rattle.text.proofs.Writes.{sound, sound-long}
+use Rattle.writer.proofs.Rows.{lined, form-long, form-lined, form-next, form-parts, form-at, row-at, text-whole, headed, gained}
+use Rattle.writer.proofs.Writes.{sound, sound-long}
 use Rattle.text.proofs.Texts.{kp0After, heads-in, kp0-there, kp0-first, goes-on, ends-short, sets-in, read-with, end-yes, end-taken, lines-done, line-refused}
 use Rattle.text.proofs.Trip.{lines-read, lines-past, valuesIn, lines-back, valued, lines-split, lines-front, front-in, lines-some}
 

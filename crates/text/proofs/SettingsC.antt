@@ -14,7 +14,7 @@ use Rattle.settings.specs.Settings.{inTable, settingsRefusal}
 use Rattle.settings.specs.SettingsC.{gainSet, settingsC}
 use Rattle.word.specs.Decimal.{shown}
 use Rattle.text.specs.declared.reader.Reading.{Reading}
-use Rattle.text.specs.Lines.{Headed, both-lines, mean-alone, neither-line, Gained, full, short, textFor, longestFor}
+use Rattle.writer.specs.Lines.{Headed, both-lines, mean-alone, neither-line, Gained, full, short, textFor, longestFor}
 use Rattle.text.specs.Reader.{readText}
 use Rattle.text.proofs.Forms.{said-of, form-read}
 

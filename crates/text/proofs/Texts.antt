@@ -21,9 +21,9 @@ use Rattle.word.specs.End.{endAt, feed, begins}
 use Rattle.word.proofs.Words.{part-after}
 use Rattle.text.specs.declared.reader.Line.{Line}
 use Rattle.text.specs.declared.reader.Reading.{Reading}
-use Rattle.text.specs.Lines.{keyOf, Headed, both-lines, mean-alone, neither-line, Gained, full, short}
+use Rattle.writer.specs.Lines.{keyOf, Headed, both-lines, mean-alone, neither-line, Gained, full, short}
 use Rattle.text.specs.Reader.{lineIn, ended, wordIn, formed, valueIn, lineValue, lineCode, lineRead, afterLine, afterLines, refused, readEnd, readFrom, headsIn, setsIn, readText}
-use Rattle.text.proofs.Rows.{form-long, form-done, headed, gained}
+use Rattle.writer.proofs.Rows.{form-long, form-done, headed, gained}
 
 -- ---- one line
 

@@ -23,9 +23,9 @@ use Rattle.word.specs.End.{endAt, feed, begins}
 use Rattle.word.proofs.Words.{without-both, end-without, before-first, after-first, at-byte, begins-self, begins-split}
 use Rattle.word.proofs.Decimals.{decimal-read, read-decimal}
 use Rattle.text.specs.declared.reader.Reading.{Reading}
-use Rattle.text.specs.Lines.{keyOf, lineOf, linesOf}
+use Rattle.writer.specs.Lines.{keyOf, lineOf, linesOf}
 use Rattle.text.specs.Reader.{lineIn, ended, afterLine, wordIn, formed, lineCode, lineValue, afterLines, readEnd, readFrom}
-use Rattle.text.proofs.Rows.{plain, plain-shown, lined, is-lined}
+use Rattle.writer.proofs.Rows.{plain, plain-shown, lined, is-lined}
 use Rattle.text.proofs.Texts.{line-yes, feed-there, end-yes, line-taken, first-taken}
 
 -- ---- bytes without a line feed

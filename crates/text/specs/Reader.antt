@@ -16,7 +16,7 @@ use Rattle.word.specs.Decimal.{isDecimal, numberOf}
 use Rattle.word.specs.End.{endAt, feed, begins}
 use Rattle.text.specs.declared.reader.Line.{Line}
 use Rattle.text.specs.declared.reader.Reading.{Reading}
-use Rattle.text.specs.Lines.{keyOf}
+use Rattle.writer.specs.Lines.{keyOf}
 
 -- ---- the first line of what is left of a text
 

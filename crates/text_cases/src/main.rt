@@ -583,7 +583,7 @@ fn kept(buffer: &[u8; ROOM]) -> usize {
 fn write(name: &[u8], s: Settings, room: usize) {
     let mut buffer = [b'x'; ROOM];
     if room <= ROOM {
-        let w = text::writer::write_settings(s, &mut buffer[0..room]);
+        let w = writer::write_settings(s, &mut buffer[0..room]);
         say(name, w.code, w.len);
         say(b"  bytes-kept", w.code, kept(&buffer));
     }
@@ -647,7 +647,7 @@ fn wrongs() {
 // Writes the settings of a text: the code and length, or 99 where the bytes are others than those of another text.
 fn again(name: &[u8], made: Made, all: Made) {
     let mut buffer = [b'x'; ROOM];
-    let w = text::writer::write_settings(settings_of(made), &mut buffer);
+    let w = writer::write_settings(settings_of(made), &mut buffer);
     let n = w.len;
     if n <= ROOM {
         if all.is(&buffer[0..n]) {

@@ -22,11 +22,11 @@ use Rattle.settings.proofs.Values.{filled-all}
 use Rattle.word.specs.Decimal.{shown}
 use Rattle.word.specs.End.{begins}
 use Rattle.text.specs.declared.reader.Reading.{Reading}
-use Rattle.text.specs.Lines.{linesOf, Headed, mean-alone, neither-line, Gained, full, short, textFor, textOf, longestFor, longestText}
+use Rattle.writer.specs.Lines.{linesOf, Headed, mean-alone, neither-line, Gained, full, short, textFor, textOf, longestFor, longestText}
 use Rattle.text.specs.Reader.{lineCode, afterLines, refused, readEnd, headsIn, setsIn, readText}
-use Rattle.text.specs.Writer.{writtenOf, bufferAfter}
+use Rattle.writer.specs.Writer.{writtenOf, bufferAfter}
 use Rattle.text.proofs.Texts.{has-neither, has-both, heads-in, kp0-first, goes-on, sets-in, text-answer}
-use Rattle.text.proofs.Writes.{fits-in, wrote, wrote-nothing}
+use Rattle.writer.proofs.Writes.{fits-in, wrote, wrote-nothing}
 use Rattle.text.proofs.Forms as forms
 use Rattle.text.proofs.SettingsC as examples
 

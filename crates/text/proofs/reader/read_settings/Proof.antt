@@ -20,7 +20,7 @@ use Rattle.settings.proofs.Forms.{unread-completed, picked-long, picked-set, fi
 use Rattle.text.specs.declared.reader.Line.{Line}
 use Rattle.text.specs.Reader.{lineCode, lineValue, lineRead, refused, readEnd, readFrom, readText}
 use Rattle.whole.proofs.Lists.{set-take}
-use Rattle.text.proofs.Rows.{headed, gained, key-short, form-next, form-at, row-at, place-in}
+use Rattle.writer.proofs.Rows.{headed, gained, key-short, form-next, form-at, row-at, place-in}
 use Rattle.text.proofs.Texts.{line-yes, feed-there, value-taken, part-line, after-shorter, heads-in, sets-in, read-with, line-refused, line-taken, lines-done}
 use Rattle.text.proofs.reader.read_settings.Statement.{statement}
 use Rattle.text.proofs.reader.read_settings.Tie as tie

@@ -10,10 +10,10 @@ use Rattle.settings.specs.Table.{longestKey}
 use Rattle.word.specs.Decimal.{decimalOf}
 use Rattle.word.specs.End.{begins}
 use Rattle.word.proofs.Words.{begun-long}
-use Rattle.text.specs.Lines.{keyOf}
+use Rattle.writer.specs.Lines.{keyOf}
 use Rattle.text.specs.Reader.{wordIn}
 use Rattle.whole.proofs.Lists.{part-left}
-use Rattle.text.proofs.Rows.{key-length}
+use Rattle.writer.proofs.Rows.{key-length}
 use Rattle.text.proofs.Texts.{not-begun, begun}
 use Rattle.text.proofs.reader.value_in.Statement.{statement}
 use Rattle.text.proofs.reader.value_in.Tie as tie

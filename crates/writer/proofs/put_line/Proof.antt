@@ -8,12 +8,12 @@ use mir.Facts.{toZ-ofZ}
 use Rattle.settings.specs.Table.{longestKey}
 use Rattle.word.specs.Decimal.{decimalRoom, decimal}
 use Rattle.word.proofs.Shows.{decimal-room}
-use Rattle.text.specs.Lines.{keyOf}
-use Rattle.text.proofs.Rows.{key-length}
-use Rattle.text.proofs.Writes.{line-stored}
+use Rattle.writer.specs.Lines.{keyOf}
+use Rattle.writer.proofs.Rows.{key-length}
+use Rattle.writer.proofs.Writes.{line-stored}
 use borrow.Author.Needs.{needs}
-use Rattle.text.proofs.writer.put_line.Statement.{statement}
-use Rattle.text.proofs.writer.put_line.Tie as tie
+use Rattle.writer.proofs.put_line.Statement.{statement}
+use Rattle.writer.proofs.put_line.Tie as tie
 
 key-long : (c : tie.Start) → length (keyOf (c .args .row)) ≡ c .args .row .1
 key-long c = key-length (c .args .row) (search needs) (c .pre .0)

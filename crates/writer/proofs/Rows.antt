@@ -25,7 +25,7 @@ use Rattle.word.specs.End.{feed}
 use Rattle.word.proofs.Words.{without, without-both}
 use Rattle.word.proofs.Digits.{digit}
 use Rattle.word.proofs.Decimals.{shown-form}
-use Rattle.text.specs.Lines.{keyOf, lineOf, linesOf, Headed, both-lines, mean-alone, neither-line, Gained, full, short, textFor, textOf}
+use Rattle.writer.specs.Lines.{keyOf, lineOf, linesOf, Headed, both-lines, mean-alone, neither-line, Gained, full, short, textFor, textOf}
 
 -- ---- bytes without a line feed
 

@@ -17,11 +17,11 @@ use Rattle.settings.proofs.Fit.{settings-fit}
 use Rattle.settings.proofs.Rows.{values-long}
 use Rattle.word.specs.Decimal.{decimalRoom}
 use Rattle.word.proofs.Stores.{rest-stored}
-use Rattle.text.specs.Lines.{lineOf, linesOf, textOf}
-use Rattle.text.proofs.Writes.{line-short}
-use Rattle.text.proofs.Rows.{key-short, lines-next, lines-end, text-whole}
-use Rattle.text.proofs.writer.put_lines.Statement.{statement}
-use Rattle.text.proofs.writer.put_lines.Tie as tie
+use Rattle.writer.specs.Lines.{lineOf, linesOf, textOf}
+use Rattle.writer.proofs.Writes.{line-short}
+use Rattle.writer.proofs.Rows.{key-short, lines-next, lines-end, text-whole}
+use Rattle.writer.proofs.put_lines.Statement.{statement}
+use Rattle.writer.proofs.put_lines.Tie as tie
 
 abbrev Inv-loop : tie.InvT-loop
 Inv-loop settings buffer₀ at₀ i₀ buffer at i =

@@ -1,11 +1,11 @@
-// The settings' writer.
+// The settings' writer: the text that settings have, specs/Lines.antt, and what comes of writing it, specs/Writer.antt.
 ghost use mathlib.Core.Path.{_≡_};
 ghost use Prim.Native.Nat.{_+_, _≤_};
 ghost use lib.ListN.{length};
 ghost use lib.Seq.{sets};
 ghost use Rattle.settings.specs.Table.{longestKey};
-ghost use Rattle.text.specs.Lines.{lineOf, textOf};
-ghost use Rattle.text.specs.Writer.{writtenOf, bufferAfter};
+ghost use Rattle.writer.specs.Lines.{lineOf, textOf};
+ghost use Rattle.writer.specs.Writer.{writtenOf, bufferAfter};
 use settings::Settings;
 use settings::table::Row;
 use word::buffer::put;

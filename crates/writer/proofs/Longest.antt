@@ -22,8 +22,8 @@ use Rattle.settings.proofs.Ranges.{all-at, rows-front}
 use Rattle.settings.proofs.Forms.{rows-picked, picked-in}
 use Rattle.word.specs.Decimal.{shown, decimal}
 use Rattle.word.proofs.Widths.{width}
-use Rattle.text.specs.Lines.{keyOf, linesOf, Headed, both-lines, mean-alone, neither-line, Gained, full, short, textFor, longestLater, longestFor}
-use Rattle.text.proofs.Rows.{lettered, gains-lettered, key-numbered, headed}
+use Rattle.writer.specs.Lines.{keyOf, linesOf, Headed, both-lines, mean-alone, neither-line, Gained, full, short, textFor, longestLater, longestFor}
+use Rattle.writer.proofs.Rows.{lettered, gains-lettered, key-numbered, headed}
 
 -- ---- lines
 

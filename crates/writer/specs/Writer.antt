@@ -6,8 +6,8 @@ use lib.Dec.{ltb, eqb}
 use lib.ListN.{length, drop}
 use Rattle.settings.specs.declared.Settings.{Settings}
 use Rattle.settings.specs.Settings.{settingsRefusal}
-use Rattle.text.specs.declared.writer.Written.{Written}
-use Rattle.text.specs.Lines.{textOf}
+use Rattle.writer.specs.declared.Written.{Written}
+use Rattle.writer.specs.Lines.{textOf}
 
 -- "The writer tests 11, 16, 18", 0 where none is due; the buffer has room bytes
 unfoldable pub writeCode : Settings → ℕ → ℕ

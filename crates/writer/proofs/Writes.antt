@@ -20,10 +20,10 @@ use Rattle.word.specs.Decimal.{decimalRoom}
 use Rattle.word.specs.End.{feed}
 use Rattle.word.proofs.Shows.{decimal-room}
 use Rattle.word.proofs.Stores.{sets-append}
-use Rattle.text.specs.declared.writer.Written.{Written}
-use Rattle.text.specs.Lines.{lineOf, Headed, Gained, textFor, textOf, longestFor}
-use Rattle.text.specs.Writer.{writeCode, writtenOf, bufferAfter}
-use Rattle.text.proofs.Longest.{text-long}
+use Rattle.writer.specs.declared.Written.{Written}
+use Rattle.writer.specs.Lines.{lineOf, Headed, Gained, textFor, textOf, longestFor}
+use Rattle.writer.specs.Writer.{writeCode, writtenOf, bufferAfter}
+use Rattle.writer.proofs.Longest.{text-long}
 
 -- ---- a line
 

@@ -11,10 +11,10 @@ use Rattle.settings.specs.Table.{heads, sets as every}
 use Rattle.settings.specs.Settings.{settingsRefusal}
 use Rattle.settings.proofs.Fit.{settings-fit}
 use Rattle.word.proofs.Stores.{front-stored, text-part}
-use Rattle.text.specs.Lines.{both-lines, full, textOf, longestText}
-use Rattle.text.proofs.Writes.{settings-refused, too-short, fits-in, sound-long}
-use Rattle.text.proofs.writer.write_settings.Statement.{statement}
-use Rattle.text.proofs.writer.write_settings.Tie as tie
+use Rattle.writer.specs.Lines.{both-lines, full, textOf, longestText}
+use Rattle.writer.proofs.Writes.{settings-refused, too-short, fits-in, sound-long}
+use Rattle.writer.proofs.write_settings.Statement.{statement}
+use Rattle.writer.proofs.write_settings.Tie as tie
 
 refusal-requires : tie.Need-refusal-requires
 refusal-requires c κs = search needs
