@@ -8,13 +8,13 @@ use lib.Dec.{eqb}
 use Rattle.whole.proofs.Truth.{never, and, both, by-test, chosen, cond-yes, cond-no}
 use Rattle.settings.specs.declared.Settings.{Settings}
 use Rattle.command.specs.declared.Command.{Command}
-use Rattle.pid.specs.declared.law.Obeyed.{Obeyed}
 use Rattle.record.specs.Record.{valid}
 use Rattle.record.specs.Refusals.{refusalOf}
-use Rattle.pid.specs.Law.{stepOf, lawOf}
-use Rattle.pid.proofs.Kept.{step-valid}
 use Rattle.record.proofs.Rules.{holds-of}
 use Rattle.record.proofs.Refused.{never-ten}
+use Rattle.pid.specs.declared.law.Obeyed.{Obeyed}
+use Rattle.pid.specs.Law.{stepOf, lawOf}
+use Rattle.pid.proofs.Kept.{step-valid}
 use Rattle.pid.proofs.Obeys.{obeys, refuses, breaks, settings-stay}
 use Rattle.command.proofs.Same.{same-self}
 use Rattle.memory.specs.declared.Found.{Found}

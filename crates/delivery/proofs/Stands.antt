@@ -14,8 +14,8 @@ use Rattle.settings.specs.declared.Settings.{Settings}
 use Rattle.command.specs.Command.{same}
 use Rattle.record.specs.Record.{valid}
 use Rattle.record.specs.Refusals.{refusalOf}
-use Rattle.pid.specs.Law.{stepOf}
 use Rattle.record.proofs.Rules.{holds-of}
+use Rattle.pid.specs.Law.{stepOf}
 use Rattle.pid.proofs.Kept.{step-valid}
 use Rattle.pid.proofs.Obeys.{settings-stay}
 use Rattle.memory.specs.declared.Entry.{Entry}

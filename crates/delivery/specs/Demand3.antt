@@ -12,8 +12,8 @@ use mathlib.Core.List.{List, [], _∷_}
 use lib.IntN.{ℤ}
 use lib.ListN.{length, take}
 use Rattle.command.specs.declared.Command.{Command}
-use Rattle.record.specs.declared.Loop.{Loop}
 use Rattle.command.specs.Command.{same}
+use Rattle.record.specs.declared.Loop.{Loop}
 use Rattle.record.specs.Refusals.{refusalOf}
 use Rattle.pid.specs.Law.{stepOf}
 use Rattle.command.specs.Sequence.{after, each}

@@ -16,8 +16,8 @@ use Rattle.command.proofs.Same.{same-equal, same-self}
 use Rattle.command.proofs.Sequences.{after-through, each-through}
 use Rattle.record.specs.Record.{valid}
 use Rattle.record.specs.Refusals.{refusalOf}
-use Rattle.pid.specs.Law.{stepOf}
 use Rattle.record.proofs.Rules.{Holds, holds-of}
+use Rattle.pid.specs.Law.{stepOf}
 use Rattle.memory.specs.declared.Last.{Last}
 use Rattle.memory.specs.declared.Last.the-variants.{Nothing, Kept}
 use Rattle.memory.specs.declared.Found.{Found}

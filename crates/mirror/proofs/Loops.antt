@@ -18,8 +18,8 @@ use Rattle.record.specs.declared.Loop.{Loop}
 use Rattle.record.specs.Units.{F, B, fineReach}
 use Rattle.record.specs.Record.{freshOf, guardOf, valid}
 use Rattle.record.specs.Refusals.{refusalOf}
-use Rattle.pid.specs.Law.{signOf, fixedOf, movingOf, readAt, sampleOf, stepOf, lawOf}
 use Rattle.record.proofs.Rules.{Holds, holds-of, within-table}
+use Rattle.pid.specs.Law.{signOf, fixedOf, movingOf, readAt, sampleOf, stepOf, lawOf}
 use Rattle.pid.proofs.Sound.{fixed-ok}
 use Rattle.pid.proofs.Shapes.{fixed-is}
 use Rattle.mirror.specs.Mirror.{Mirror, ofAction, ofTemperatures, flipTemperature, flipAction, flipSettings, flipCommand, flipLoop, flipObeyed}

@@ -15,8 +15,8 @@ use Rattle.command.specs.declared.Command.the-variants.{Sample}
 use Rattle.command.specs.Sequence.{after, each}
 use Rattle.record.specs.declared.Loop.{Loop}
 use Rattle.record.specs.Record.{guardOf, valid}
-use Rattle.pid.specs.Play.{sampled, afterSamples, outputsOf, playRefusal, playedOf, wroteOf}
 use Rattle.record.proofs.Rules.{holds-of}
+use Rattle.pid.specs.Play.{sampled, afterSamples, outputsOf, playRefusal, playedOf, wroteOf}
 use Rattle.pid.proofs.Kept.{step-valid}
 use Rattle.pid.proofs.Plays.{good-first, playable}
 use Rattle.mirror.specs.Mirror.{Mirror, flipTemperature, flipLoop, flipPlayed}

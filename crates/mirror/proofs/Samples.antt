@@ -8,10 +8,10 @@ use Rattle.whole.proofs.Truth.{by-test, push}
 use Rattle.whole.proofs.Parts.{zs}
 use Rattle.whole.proofs.Lin.{Lin, at, lins}
 use Rattle.whole.proofs.Negated.{mul-neg, neg-mul, negs, neg-sub, lt-neg}
+use Rattle.record.specs.Units.{F, B}
 use Rattle.pid.specs.declared.sample.Fixed.{Fixed}
 use Rattle.pid.specs.declared.sample.Moving.{Moving}
 use Rattle.pid.specs.declared.sample.Sensed.{Sensed}
-use Rattle.record.specs.Units.{F, B}
 use Rattle.pid.specs.Units.{rounded}
 use Rattle.pid.specs.Sample.{lesser, greater, limited, ramped, filtered, derivative, errorOf, newW, newY, sensedOf, transferred, shareOf, vOf, limitedV, roomOf, clamped, backCalculated, integrated, newI, actedOf, movedOf}
 use Rattle.pid.proofs.Rounding.{rounded-neg}

@@ -7,9 +7,9 @@ use lib.Dec.{eqb}
 use lib.IntN.{ℤ}
 use Rattle.whole.specs.Numbers.{plus}
 use Rattle.whole.proofs.Truth.{never, chosen}
-use Rattle.record.specs.declared.Loop.{Loop}
 use Rattle.command.specs.declared.Command.{Command}
 use Rattle.command.specs.declared.Command.the-variants.{Sample, Hold, Put, Automatic, Target, Set}
+use Rattle.record.specs.declared.Loop.{Loop}
 use Rattle.pid.specs.Sample.{actedOf}
 use Rattle.pid.specs.Law.{sampleOf, stepOf}
 use Rattle.command.specs.Sequence.{after}

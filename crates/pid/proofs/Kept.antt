@@ -9,23 +9,23 @@ use Rattle.whole.specs.Numbers.{inside}
 use Rattle.whole.proofs.Truth.{and, chosen}
 use Rattle.whole.proofs.Parts.{zs, yes-inside}
 use Rattle.whole.proofs.Lin.{at}
-use Rattle.record.specs.declared.Loop.{Loop}
 use Rattle.command.specs.declared.Command.{Command}
 use Rattle.command.specs.declared.Command.the-variants.{Sample, Hold, Put, Automatic, Target, Set}
+use Rattle.record.specs.declared.Loop.{Loop}
+use Rattle.record.specs.Record.{guardOf, valid}
+use Rattle.record.specs.Refusals.{refusalOf}
+use Rattle.record.proofs.Rules.{Holds, valid-of, holds-of}
+use Rattle.record.proofs.Kept.{hold-holds, put-holds, automatic-holds, target-holds, set-holds}
 use Rattle.pid.specs.declared.law.Obeyed.{Obeyed}
 use Rattle.pid.specs.Units.{rounded}
 use Rattle.settings.specs.Table.{inReach}
-use Rattle.record.specs.Record.{guardOf, valid}
 use Rattle.pid.specs.Sample.{limited, actedOf, movedOf}
-use Rattle.record.specs.Refusals.{refusalOf}
 use Rattle.pid.specs.Law.{fixedOf, movingOf, readAt, sampleOf, stepOf, lawOf}
 use Rattle.pid.specs.Bounds.{MovingOk}
 use Rattle.temperature.proofs.Ranged.{taken-reach}
 use Rattle.window.proofs.Rules.{taken-ok}
 use Rattle.pid.proofs.Rounding.{rounded-between}
 use Rattle.pid.proofs.Arithmetic.{limited-between}
-use Rattle.record.proofs.Rules.{Holds, valid-of, holds-of}
-use Rattle.record.proofs.Kept.{hold-holds, put-holds, automatic-holds, target-holds, set-holds}
 use Rattle.pid.proofs.Sound.{range-in, read-in, fixed-ok, moving-ok}
 use Rattle.pid.proofs.Samples.{sensed-ok, acted-ok}
 

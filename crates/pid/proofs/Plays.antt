@@ -19,17 +19,17 @@ use Rattle.window.proofs.Good.{means-ranged}
 use Rattle.window.specs.Means.{afterAll, meansOf, frontFilled}
 use Rattle.command.specs.declared.Command.the-variants.{Sample}
 use Rattle.record.specs.declared.Loop.{Loop}
+use Rattle.record.specs.Record.{guardOf, valid}
+use Rattle.record.specs.Refusals.{refusalOf}
+use Rattle.record.proofs.Rules.{holds-of}
+use Rattle.record.proofs.Refused.{sample-code}
 use Rattle.pid.specs.declared.sample.Moving.{Moving}
 use Rattle.pid.specs.declared.play.Played.{Played}
-use Rattle.record.specs.Record.{guardOf, valid}
 use Rattle.pid.specs.Sample.{actedOf, movedOf}
-use Rattle.record.specs.Refusals.{refusalOf}
 use Rattle.pid.specs.Law.{withMoving, fixedOf, sampleOf, stepOf}
 use Rattle.command.specs.Sequence.{after, each}
 use Rattle.command.proofs.Sequences.{after-through}
 use Rattle.pid.specs.Play.{sampled, afterSamples, outputsOf, playRefusal, refusedOf, placed, playedOf, wroteOf, readsOf, movedAfter, movedOutputs}
-use Rattle.record.proofs.Rules.{holds-of}
-use Rattle.record.proofs.Refused.{sample-code}
 use Rattle.pid.proofs.Turns.{each-length}
 
 -- ---- the law's samples are done on the window and on what moves

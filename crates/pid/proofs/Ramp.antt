@@ -12,15 +12,15 @@ use Rattle.whole.specs.Numbers.{plus, size}
 use Rattle.whole.proofs.Truth.{never, chosen}
 use Rattle.whole.proofs.Parts.{zs, no-minus, no-plus, inside-yes}
 use Rattle.whole.proofs.Lin.{Lin, at, lins}
-use Rattle.record.specs.declared.Loop.{Loop}
 use Rattle.command.specs.declared.Command.{Command}
 use Rattle.command.specs.declared.Command.the-variants.{Sample, Hold, Put, Automatic, Target, Set}
+use Rattle.record.specs.declared.Loop.{Loop}
 use Rattle.record.specs.Record.{valid}
+use Rattle.record.proofs.Rules.{holds-of}
 use Rattle.pid.specs.Sample.{lesser, ramped, sensedOf, actedOf}
 use Rattle.pid.specs.Law.{sampleOf, stepOf}
 use Rattle.command.specs.Sequence.{after}
 use Rattle.pid.specs.Run.{obeyed, noTarget, samples, distance, ceiling, samplesToTarget}
-use Rattle.record.proofs.Rules.{holds-of}
 
 -- one sample
 pub ramped-left : (w t r : ℤ) → pos 0 ≤ℤ r → size (t -ℤ ramped w t r) ≡ size (t -ℤ w) - plus r

@@ -8,12 +8,12 @@ use Rattle.whole.specs.Numbers.{Within}
 use Rattle.whole.proofs.Truth.{chosen, cond-yes, cond-no}
 use Rattle.whole.proofs.Parts.{zs}
 use Rattle.whole.proofs.Num.{nums, stays}
+use Rattle.record.specs.Units.{B}
 use Rattle.pid.specs.declared.sample.Fixed.{Fixed}
 use Rattle.pid.specs.declared.sample.Moving.{Moving}
 use Rattle.pid.specs.declared.sample.Sensed.{Sensed}
 use Rattle.pid.specs.Sample.{newY, sensedOf, transferred, roomOf, vOf, limitedV, backCalculated, integrated, newI, ordinaryOf, actedOf}
 use Rattle.settings.specs.Table.{reach}
-use Rattle.record.specs.Units.{B}
 use Rattle.pid.specs.Bounds.{FixedOk, MovingOk, SensedOk}
 use Rattle.pid.proofs.Rounding.{rounded-within}
 use Rattle.pid.proofs.Arithmetic.{ramped-within, filtered-within, derivative-within, limited-within, clamped-within}

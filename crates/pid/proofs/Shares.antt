@@ -12,25 +12,25 @@ use Rattle.whole.proofs.Truth.{both, chosen, cond-yes, cond-no}
 use Rattle.whole.proofs.Parts.{zs, eqZ-yes, Between}
 use Rattle.whole.proofs.Lin.{Lin, at, lins}
 use Rattle.settings.specs.Table.{inReach}
-use Rattle.record.specs.declared.Loop.{Loop}
 use Rattle.command.specs.declared.Command.{Command}
 use Rattle.command.specs.declared.Command.the-variants.{Sample, Hold, Put, Automatic, Target, Set}
+use Rattle.record.specs.declared.Loop.{Loop}
+use Rattle.record.specs.Record.{valid}
+use Rattle.record.specs.Refusals.{refusalOf}
+use Rattle.record.proofs.Rules.{holds-of}
+use Rattle.record.proofs.Refused.{sample-reach}
 use Rattle.pid.specs.declared.sample.Fixed.{Fixed}
 use Rattle.pid.specs.declared.sample.Moving.{Moving}
 use Rattle.pid.specs.declared.sample.Sensed.{Sensed}
 use Rattle.pid.specs.Units.{rounded}
-use Rattle.record.specs.Record.{valid}
 use Rattle.pid.specs.Bounds.{FixedOk, MovingOk, SensedOk}
 use Rattle.pid.specs.Sample.{lesser, greater, limited, shareOf, vOf, limitedV, clamped, backCalculated, integrated, newI, actedOf}
-use Rattle.record.specs.Refusals.{refusalOf}
 use Rattle.pid.specs.Law.{fixedOf, movingOf, readAt, sampleOf, stepOf}
 use Rattle.command.specs.Sequence.{after}
 use Rattle.pid.specs.Run.{obeyed, accepted, sensedAt, shareAt, withinLimits, ordinaryWithin, unbroken, shares}
 use Rattle.pid.proofs.Arithmetic.{limited-between}
 use Rattle.pid.proofs.Samples.{sensed-ok}
-use Rattle.record.proofs.Rules.{holds-of}
 use Rattle.pid.proofs.Sound.{fixed-ok, moving-ok, read-in}
-use Rattle.record.proofs.Refused.{sample-reach}
 use Rattle.pid.proofs.Kept.{step-valid}
 
 -- clamping leaves room for the share where v is within the limits

@@ -2,10 +2,10 @@
 use lib.IntN.{ℤ, pos}
 use lib.Signed.{_≤ℤ_, _<ℤ_}
 use Rattle.whole.specs.Numbers.{Within}
+use Rattle.record.specs.Units.{B, fineReach}
 use Rattle.pid.specs.declared.sample.Fixed.{Fixed}
 use Rattle.pid.specs.declared.sample.Moving.{Moving}
 use Rattle.pid.specs.declared.sample.Sensed.{Sensed}
-use Rattle.record.specs.Units.{B, fineReach}
 use Rattle.pid.specs.Units.{part, excessMost}
 use Rattle.settings.specs.Table.{reach, fastest, gain, share}
 

@@ -8,8 +8,8 @@ use Rattle.window.specs.Window.{freshWindow}
 use Rattle.command.specs.declared.Command.{Command}
 use Rattle.command.specs.declared.Command.the-variants.{Sample, Hold, Put, Automatic, Target, Set}
 use Rattle.record.specs.declared.Loop.{Loop}
-use Rattle.pid.specs.Sample.{movedOf}
 use Rattle.record.specs.Refusals.{refusalOf}
+use Rattle.pid.specs.Sample.{movedOf}
 use Rattle.pid.specs.Law.{withMoving, fixedOf, movingOf, stepOf}
 
 unfoldable pub plainSampleOf : Loop → ℤ → Loop

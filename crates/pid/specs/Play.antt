@@ -10,10 +10,10 @@ use Rattle.window.specs.Means.{meansOf, frontFilled}
 use Rattle.temperature.specs.Temperature.{firstBad, firstCode}
 use Rattle.command.specs.declared.Command.the-variants.{Sample}
 use Rattle.record.specs.declared.Loop.{Loop}
+use Rattle.record.specs.Record.{guardOf, valid}
 use Rattle.pid.specs.declared.sample.Fixed.{Fixed}
 use Rattle.pid.specs.declared.sample.Moving.{Moving}
 use Rattle.pid.specs.declared.play.Played.{Played}
-use Rattle.record.specs.Record.{guardOf, valid}
 use Rattle.pid.specs.Sample.{movedOf}
 use Rattle.pid.specs.Law.{stepOf}
 use Rattle.command.specs.Sequence.{after, each}

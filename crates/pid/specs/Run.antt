@@ -5,12 +5,12 @@ use mathlib.Core.List.{List, [], _∷_}
 use lib.Dec.{eqb}
 use lib.IntN.{ℤ, pos, _+ℤ_, _-ℤ_}
 use Rattle.whole.specs.Numbers.{plus, size, eqZ}
-use Rattle.record.specs.declared.Loop.{Loop}
 use Rattle.command.specs.declared.Command.{Command}
 use Rattle.command.specs.declared.Command.the-variants.{Sample, Hold, Put, Automatic, Target, Set}
+use Rattle.record.specs.declared.Loop.{Loop}
+use Rattle.record.specs.Refusals.{refusalOf}
 use Rattle.pid.specs.declared.sample.Sensed.{Sensed}
 use Rattle.pid.specs.Sample.{sensedOf, shareOf, vOf, limitedV}
-use Rattle.record.specs.Refusals.{refusalOf}
 use Rattle.pid.specs.Law.{fixedOf, movingOf, readAt, stepOf}
 use Rattle.command.specs.Sequence.{after}
 

@@ -3,10 +3,10 @@
 use mathlib.Core.Bool.{Bool, true, false, not, cond, _&&_}
 use lib.IntN.{ℤ, pos, negℤ, _+ℤ_, _-ℤ_, _*ℤ_}
 use lib.Signed.{ltZ}
+use Rattle.record.specs.Units.{F, B}
 use Rattle.pid.specs.declared.sample.Fixed.{Fixed}
 use Rattle.pid.specs.declared.sample.Moving.{Moving}
 use Rattle.pid.specs.declared.sample.Sensed.{Sensed}
-use Rattle.record.specs.Units.{F, B}
 use Rattle.pid.specs.Units.{rounded}
 
 -- "the smaller of"

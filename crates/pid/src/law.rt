@@ -125,7 +125,7 @@ fn sample(l: Loop, pv: i32) -> Loop
     with_moving(l, window, pv, act(f, m, z))
 }
 
-pub(crate) fn step(l: Loop, c: Command) -> Loop
+fn step(l: Loop, c: Command) -> Loop
     requires { ⌜ (valid l ≡ true) × (refusalOf l c ≡ 0) ⌝ }
     ensures { λ r. ⌜ r ≡ stepOf l c ⌝ }
 {

@@ -3,12 +3,12 @@ use mathlib.Core.Path.{_≡_, refl}
 use Rattle.settings.specs.Table.{rowsOf}
 use Rattle.settings.specs.Settings.{inTable}
 use Rattle.temperature.specs.Temperature.{codeOf}
+use Rattle.record.specs.Record.{freshOf, valid}
+use Rattle.record.specs.Refusals.{refusalOf}
 use Rattle.pid.specs.Units.{rounded}
 use Rattle.settings.specs.SettingsC.{settingsC}
 use Rattle.window.specs.Window.{freshWindow, taken, meanAt, windowOk}
-use Rattle.record.specs.Record.{freshOf, valid}
 use Rattle.pid.specs.Sample.{lesser, greater, limited, ramped, filtered, derivative, sensedOf, clamped, backCalculated, integrated, actedOf}
-use Rattle.record.specs.Refusals.{refusalOf}
 use Rattle.pid.specs.Law.{sampleOf, stepOf}
 use Rattle.memory.specs.Memory.{window, memoryOk, remembered, isLast, foundIn, foundBy}
 use Rattle.delivery.specs.Numbered.{newOf, servedOf, deliveredOf}

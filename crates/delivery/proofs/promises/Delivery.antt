@@ -15,10 +15,10 @@ use Rattle.command.specs.declared.Command.{Command}
 use Rattle.record.specs.Units.{fine}
 use Rattle.record.specs.Record.{inB, valid}
 use Rattle.record.specs.Refusals.{refusalOf}
-use Rattle.pid.specs.Law.{stepOf}
-use Rattle.window.specs.Window.{freshWindow, windowOk}
 use Rattle.record.proofs.Rules.{holds-of}
 use Rattle.record.proofs.promises.Made as loops
+use Rattle.pid.specs.Law.{stepOf}
+use Rattle.window.specs.Window.{freshWindow, windowOk}
 use Rattle.memory.specs.Memory.{window, memoryOk as Memory·memoryOk}
 use Rattle.memory.proofs.Rules.{no-memory-ok}
 use Rattle.delivery.specs.declared.numbered.Numbered.{Numbered}

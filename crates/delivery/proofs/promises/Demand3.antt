@@ -10,15 +10,15 @@ use Rattle.settings.specs.Table.{rowsOf}
 use Rattle.settings.specs.Settings.{inTable}
 use Rattle.command.specs.declared.Command.{Command}
 use Rattle.command.specs.declared.Command.the-variants.{Sample, Automatic, Target, Set}
-use Rattle.record.specs.declared.Loop.{Loop}
 use Rattle.temperature.specs.Temperature.{codeOf}
+use Rattle.record.specs.declared.Loop.{Loop}
+use Rattle.record.specs.Record.{freshOf}
+use Rattle.record.specs.Record.{madeOf as Loop·madeOf}
+use Rattle.record.specs.Refusals.{refusalOf}
 use Rattle.pid.specs.Units.{rounded}
 use Rattle.settings.specs.SettingsC.{settingsC}
 use Rattle.command.specs.Command.{same}
-use Rattle.record.specs.Record.{freshOf}
-use Rattle.record.specs.Record.{madeOf as Loop·madeOf}
 use Rattle.pid.specs.Sample.{lesser, greater, limited, ramped, filtered, derivative, sensedOf, clamped, backCalculated, integrated, actedOf}
-use Rattle.record.specs.Refusals.{refusalOf}
 use Rattle.pid.specs.Law.{sampleOf, stepOf}
 use Rattle.command.specs.Sequence.{after}
 use Rattle.pid.specs.Run.{unbroken, shares}

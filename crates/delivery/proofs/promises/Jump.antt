@@ -24,9 +24,9 @@ use Rattle.command.proofs.Sequences.{after-append}
 use Rattle.record.specs.declared.Loop.{Loop}
 use Rattle.record.specs.Units.{fine}
 use Rattle.record.specs.Record.{freshOf, valid}
-use Rattle.pid.specs.Sample.{actedOf}
-use Rattle.record.specs.Commands.{withMode}
 use Rattle.record.specs.Refusals.{refusalOf}
+use Rattle.record.specs.Commands.{withMode}
+use Rattle.pid.specs.Sample.{actedOf}
 use Rattle.pid.specs.Law.{withMoving, sampleOf, stepOf}
 use Rattle.pid.specs.Plain.{plainRefusalOf}
 use Rattle.pid.specs.Run.{obeyed, accepted, samples}

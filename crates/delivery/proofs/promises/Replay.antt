@@ -21,10 +21,10 @@ use Rattle.temperature.specs.Temperature.{codeOf, firstBad, firstCode}
 use Rattle.temperature.proofs.Earliest.{front-good}
 use Rattle.temperature.proofs.promises.Jump.{codeAt, earliest, none-bad, all-good}
 use Rattle.record.specs.Record.{freshOf, inB, guardOf, valid}
+use Rattle.record.proofs.Rules.{holds-of}
 use Rattle.pid.specs.Play.{hasPlace, afterSamples, outputsOf}
 use Rattle.command.specs.Sequence.{after, each}
 use Rattle.window.specs.Window.{freshWindow, windowOk}
-use Rattle.record.proofs.Rules.{holds-of}
 use Rattle.pid.proofs.Plays.{bad-after}
 use Rattle.memory.specs.Memory.{window, memoryOk as Memory·memoryOk, lastNumber, filledOf}
 use Rattle.memory.specs.Walk.{Answer}

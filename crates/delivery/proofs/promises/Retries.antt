@@ -18,10 +18,10 @@ use Rattle.command.specs.Sequence.{after}
 use Rattle.command.proofs.Same.{same-self}
 use Rattle.temperature.specs.Temperature.{codeOf, firstCode}
 use Rattle.window.specs.Window.{freshWindow, taken, meanAt, windowOk}
-use Rattle.pid.specs.Units.{rounded}
-use Rattle.pid.specs.Sample.{lesser, greater, limited, ramped, filtered, derivative, sensedOf, clamped, backCalculated, integrated, actedOf}
 use Rattle.record.specs.Record.{freshOf, guardOf, valid}
 use Rattle.record.specs.Refusals.{refusalOf}
+use Rattle.pid.specs.Units.{rounded}
+use Rattle.pid.specs.Sample.{lesser, greater, limited, ramped, filtered, derivative, sensedOf, clamped, backCalculated, integrated, actedOf}
 use Rattle.pid.specs.Law.{sampleOf, stepOf}
 use Rattle.pid.specs.Play.{outputsOf}
 use Rattle.pid.proofs.Plays.{good-first}

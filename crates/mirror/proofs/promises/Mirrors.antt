@@ -15,8 +15,8 @@ use Rattle.command.specs.declared.Command.{Command}
 use Rattle.command.specs.Sequence.{after, each}
 use Rattle.command.proofs.Sequences.{after-through, each-through}
 use Rattle.record.specs.declared.Loop.{Loop}
-use Rattle.pid.specs.declared.law.Obeyed.{Obeyed}
 use Rattle.record.specs.Record.{madeOf as Loop·madeOf}
+use Rattle.pid.specs.declared.law.Obeyed.{Obeyed}
 use Rattle.pid.specs.Law.{lawOf}
 use Rattle.pid.specs.Play.{playedOf, wroteOf}
 use Rattle.memory.specs.Memory.{window}

@@ -16,11 +16,11 @@ use Rattle.command.specs.Sequence.{after, each}
 use Rattle.window.specs.Window.{freshWindow, taken, meanAt, windowOk}
 use Rattle.record.specs.declared.Loop.{Loop}
 use Rattle.record.specs.Units.{F, fine}
-use Rattle.pid.specs.Units.{rounded}
 use Rattle.record.specs.Record.{valid}
 use Rattle.record.specs.Record.{madeOf as Loop·madeOf}
-use Rattle.pid.specs.Sample.{lesser, greater, limited, ramped, filtered, derivative, sensedOf, vOf, limitedV, clamped, backCalculated, integrated, actedOf}
 use Rattle.record.specs.Refusals.{refusalOf}
+use Rattle.pid.specs.Units.{rounded}
+use Rattle.pid.specs.Sample.{lesser, greater, limited, ramped, filtered, derivative, sensedOf, vOf, limitedV, clamped, backCalculated, integrated, actedOf}
 use Rattle.pid.specs.Law.{fixedOf, movingOf, readAt, sampleOf, stepOf, lawOf}
 use Rattle.pid.specs.Run.{sensedAt}
 use Rattle.pid.specs.Play.{playRefusal, wroteOf}

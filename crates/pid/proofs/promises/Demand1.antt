@@ -6,21 +6,21 @@ use lib.IntN.{ℤ, pos, _-ℤ_, _*ℤ_}
 use Rattle.whole.specs.Numbers.{Within, inside}
 use Rattle.whole.proofs.Truth.{cond-no}
 use Rattle.whole.proofs.Num.{nums, stays}
-use Rattle.record.specs.declared.Loop.{Loop}
 use Rattle.command.specs.declared.Command.{Command}
+use Rattle.record.specs.declared.Loop.{Loop}
+use Rattle.record.specs.Units.{F}
+use Rattle.record.specs.Record.{inB, valid}
+use Rattle.record.proofs.Rules.{holds-of}
 use Rattle.pid.specs.declared.law.Obeyed.{Obeyed}
 use Rattle.pid.specs.declared.sample.Fixed.{Fixed}
 use Rattle.pid.specs.declared.sample.Moving.{Moving}
 use Rattle.pid.specs.declared.sample.Sensed.{Sensed}
-use Rattle.record.specs.Units.{F}
 use Rattle.pid.specs.Units.{part, product}
 use Rattle.settings.specs.Table.{reach, inReach}
-use Rattle.record.specs.Record.{inB, valid}
 use Rattle.pid.specs.Sample.{sensedOf, shareOf, vOf, limitedV}
 use Rattle.pid.specs.Bounds.{FixedOk, MovingOk}
 use Rattle.pid.specs.Run.{sensedAt}
 use Rattle.pid.specs.Law.{fixedOf, movingOf, readAt, lawOf}
-use Rattle.record.proofs.Rules.{holds-of}
 use Rattle.pid.proofs.Sound.{fixed-ok, moving-ok, read-in}
 use Rattle.pid.proofs.Samples.{sensed-ok}
 use Rattle.pid.proofs.Arithmetic.{limited-within}

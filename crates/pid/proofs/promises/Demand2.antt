@@ -4,9 +4,9 @@ use mathlib.Core.Path.{_≡_, _∙_}
 use mathlib.Core.Bool.{true}
 use mathlib.Core.List.{List}
 use lib.IntN.{ℤ, _+ℤ_}
-use Rattle.record.specs.declared.Loop.{Loop}
 use Rattle.command.specs.declared.Command.{Command}
 use Rattle.command.specs.declared.Command.the-variants.{Sample}
+use Rattle.record.specs.declared.Loop.{Loop}
 use Rattle.record.specs.Record.{valid}
 use Rattle.pid.specs.Law.{stepOf}
 use Rattle.pid.specs.Run.{obeyed, accepted, switches, between, unbroken, shares, noTarget, samples, samplesToTarget}

@@ -9,16 +9,16 @@ use Rattle.whole.proofs.Parts.{yes-le, no-le}
 use Rattle.command.specs.declared.Command.{Command}
 use Rattle.command.specs.declared.Command.the-variants.{Sample, Hold, Automatic, Target, Set}
 use Rattle.record.specs.declared.Loop.{Loop}
+use Rattle.record.specs.Units.{F, fine}
+use Rattle.record.specs.Record.{freshOf, valid}
+use Rattle.record.specs.Refusals.{refusalOf}
 use Rattle.pid.specs.declared.sample.Fixed.{Fixed}
 use Rattle.pid.specs.declared.sample.Moving.{Moving}
-use Rattle.record.specs.Units.{F, fine}
 use Rattle.pid.specs.Units.{rounded}
 use Rattle.settings.specs.Table.{rowsOf}
 use Rattle.settings.specs.Settings.{inTable}
 use Rattle.temperature.specs.Temperature.{codeOf}
 use Rattle.window.specs.Window.{freshWindow, taken, meanAt, windowOk}
-use Rattle.record.specs.Record.{freshOf, valid}
-use Rattle.record.specs.Refusals.{refusalOf}
 use Rattle.pid.specs.Law.{sampleOf, stepOf}
 use Rattle.command.specs.Sequence.{after}
 use Rattle.pid.specs.Run.{obeyed, accepted, switches, between, unbroken, shares, samplesToTarget}

@@ -23,15 +23,15 @@ use Rattle.command.specs.declared.Command.{Command}
 use Rattle.command.specs.declared.Command.the-variants.{Sample, Hold, Put, Automatic, Target, Set}
 use Rattle.command.specs.Sequence.{after, each}
 use Rattle.record.specs.declared.Loop.{Loop}
-use Rattle.pid.specs.Units.{rounded}
 use Rattle.record.specs.Record.{freshOf, guardOf, valid}
-use Rattle.pid.specs.Sample.{lesser, greater, limited, ramped, filtered, derivative, sensedOf, clamped, backCalculated, integrated, actedOf}
 use Rattle.record.specs.Refusals.{refusalOf}
+use Rattle.record.proofs.Refused.{sample-code}
+use Rattle.record.proofs.Rules.{holds-of}
+use Rattle.pid.specs.Units.{rounded}
+use Rattle.pid.specs.Sample.{lesser, greater, limited, ramped, filtered, derivative, sensedOf, clamped, backCalculated, integrated, actedOf}
 use Rattle.pid.specs.Law.{sampleOf, stepOf, lawOf}
 use Rattle.pid.specs.Plain.{plainRefusalOf}
 use Rattle.pid.specs.Run.{obeyed, samples}
-use Rattle.record.proofs.Refused.{sample-code}
-use Rattle.record.proofs.Rules.{holds-of}
 
 -- ---- with jump 2,000,000 the law is the law without the rule: its steps are the same, and it refuses the same
 

@@ -16,10 +16,10 @@ use Rattle.command.specs.declared.Command.{Command}
 use Rattle.command.specs.declared.Command.the-variants.{Sample, Hold, Put, Automatic, Target, Set}
 use Rattle.command.specs.Sequence.{after, each}
 use Rattle.record.specs.declared.Loop.{Loop}
-use Rattle.pid.specs.Units.{rounded}
 use Rattle.record.specs.Record.{freshOf, valid}
-use Rattle.pid.specs.Sample.{lesser, greater, limited, ramped, filtered, derivative, sensedOf, movedOf, clamped, backCalculated, integrated, actedOf}
 use Rattle.record.specs.Refusals.{refusalOf}
+use Rattle.pid.specs.Units.{rounded}
+use Rattle.pid.specs.Sample.{lesser, greater, limited, ramped, filtered, derivative, sensedOf, movedOf, clamped, backCalculated, integrated, actedOf}
 use Rattle.pid.specs.Law.{withMoving, fixedOf, movingOf, sampleOf, stepOf}
 use Rattle.pid.specs.Plain.{plainSampleOf, plainStepOf, windowless}
 use Rattle.pid.specs.Run.{obeyed}

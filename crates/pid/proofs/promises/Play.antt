@@ -10,9 +10,9 @@ use lib.ListN.{length}
 use Rattle.whole.proofs.Truth.{by-test}
 use Rattle.temperature.specs.Temperature.{firstCode}
 use Rattle.command.specs.declared.Command.the-variants.{Sample}
+use Rattle.command.specs.Sequence.{after}
 use Rattle.record.specs.declared.Loop.{Loop}
 use Rattle.record.specs.Record.{guardOf, valid}
-use Rattle.command.specs.Sequence.{after}
 use Rattle.pid.specs.Play.{sampled, afterSamples, playRefusal, playedOf, wroteOf}
 use Rattle.pid.specs.Run.{obeyed}
 use Rattle.pid.proofs.Kept.{step-valid}

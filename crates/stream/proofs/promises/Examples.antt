@@ -8,10 +8,10 @@ use Rattle.whole.specs.Words.{bytes}
 use Rattle.settings.specs.Table.{rowsOf}
 use Rattle.settings.specs.Settings.{inTable}
 use Rattle.settings.specs.SettingsC.{settingsWith}
-use Rattle.pid.specs.Units.{rounded}
 use Rattle.record.specs.Record.{valid, madeOf}
-use Rattle.pid.specs.Sample.{lesser, greater, limited, ramped, filtered, derivative, sensedOf, clamped, backCalculated, integrated, actedOf}
 use Rattle.record.specs.Refusals.{refusalOf}
+use Rattle.pid.specs.Units.{rounded}
+use Rattle.pid.specs.Sample.{lesser, greater, limited, ramped, filtered, derivative, sensedOf, clamped, backCalculated, integrated, actedOf}
 use Rattle.pid.specs.Law.{sampleOf, stepOf}
 use Rattle.memory.specs.Memory.{window, memoryOk, remembered, isLast, foundIn, foundBy}
 use Rattle.delivery.specs.Numbered.{servedOf, deliveredOf}

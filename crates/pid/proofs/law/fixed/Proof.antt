@@ -7,8 +7,8 @@ use Rattle.whole.proofs.Bits.{back, widened}
 use Rattle.settings.specs.Table.{sets}
 use Rattle.settings.proofs.Fit.{gains-fit}
 use Rattle.record.proofs.Fit.{loop-fit}
-use Rattle.pid.proofs.Shapes.{fixed-is}
 use Rattle.record.proofs.Rules.{holds-of}
+use Rattle.pid.proofs.Shapes.{fixed-is}
 use borrow.Author.Needs.{needs}
 use Rattle.pid.proofs.law.fixed.Statement.{statement}
 use Rattle.pid.proofs.law.fixed.Tie as tie

@@ -11,10 +11,10 @@ use Rattle.window.specs.declared.Window.{Window}
 use Rattle.window.specs.Window.{taken, latest, meanOf, meanAt}
 use Rattle.record.specs.declared.Loop.{Loop}
 use Rattle.record.specs.Record.{valid}
+use Rattle.record.proofs.Rules.{holds-of}
 use Rattle.pid.specs.Sample.{sensedOf, movedOf}
 use Rattle.pid.specs.Bounds.{FixedOk, MovingOk}
 use Rattle.pid.specs.Law.{fixedOf, movingOf, readAt, sampleOf}
-use Rattle.record.proofs.Rules.{holds-of}
 use Rattle.pid.proofs.Sound.{fixed-ok, moving-ok, read-in}
 use Rattle.pid.proofs.Samples.{sensed-ok, acted-ok}
 use Rattle.pid.proofs.Shapes.{moving-with}

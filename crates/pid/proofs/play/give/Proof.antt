@@ -9,11 +9,11 @@ use mir.Facts.{toZ-ofZ}
 use Rattle.temperature.specs.Temperature.{ranged, rawAfter}
 use Rattle.window.specs.Means.{frontFilled}
 use Rattle.record.specs.declared.Loop.{Loop}
+use Rattle.record.proofs.Rules.{holds-of}
+use Rattle.record.proofs.Fit.{loop-fit}
 use Rattle.pid.specs.Law.{fixedOf, movingOf}
 use Rattle.pid.specs.Play.{readsOf, movedAfter, movedOutputs}
-use Rattle.record.proofs.Rules.{holds-of}
 use Rattle.pid.proofs.Sound.{fixed-ok, moving-ok}
-use Rattle.record.proofs.Fit.{loop-fit}
 use Rattle.pid.proofs.Turns.{all-ok}
 use Rattle.pid.proofs.Shapes.{moving-with}
 use Rattle.pid.proofs.Plays.{after-moved, outputs-moved, reads-ranged}
