@@ -9,6 +9,7 @@ use delivery::numbered::Delivered;
 use delivery::numbered::Numbered;
 use memory::Memory;
 use settings::Settings;
+use values::settings_of;
 
 // The numbers of a list that has as many as settings have values.
 fn values_of(list: &[i32]) -> [i32; Settings::LINES]
@@ -81,7 +82,7 @@ pub extern "C" fn port_replay(
         *place = 0;
         return 11;
     }
-    let start = ready(Settings::of(values_of(values)), set, target, before, held);
+    let start = ready(settings_of(values_of(values)), set, target, before, held);
     let done = start.replay(first, samples, out);
     *place = done.place;
     done.code as i32
@@ -143,7 +144,7 @@ pub extern "C" fn port_late(
         *told = 0;
         return 11;
     }
-    let start = remembering(Settings::of(values_of(values)), last, earlier, answered);
+    let start = remembering(settings_of(values_of(values)), last, earlier, answered);
     let done = late(start, first, samples, out, number, value);
     let u = done.output;
     *output = u;

@@ -6,6 +6,9 @@ ghost use Rattle.word.specs.End.{endAt, feed};
 ghost use Rattle.text.specs.Reader.{valueIn, lineRead, refused, readEnd, afterLines, headsIn, setsIn, readText};
 use settings::Settings;
 use settings::table::Row;
+use values::filled;
+use values::settings_of;
+use values::unread;
 use word::decimal::Decimal;
 use word::end::begins;
 use word::end::end_at;
@@ -155,7 +158,7 @@ pub fn read_settings(text: &[u8]) -> Reading
     let h = heads_in(text);
     let sets = sets_in(h, text);
     let lines = h + Settings::KEYS * sets;
-    let mut values = Settings::unread();
+    let mut values = unread();
     let mut rest = text;
     let mut i: usize = 0;
     while i < lines {
@@ -171,5 +174,5 @@ pub fn read_settings(text: &[u8]) -> Reading
         rest = &rest[end + 1..];
         i += 1;
     }
-    read_end(Settings::of(values).filled(sets), rest.len())
+    read_end(filled(settings_of(values), sets), rest.len())
 }

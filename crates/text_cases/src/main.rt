@@ -6,6 +6,7 @@ use libc::STDOUT_FILENO;
 use settings::Settings;
 use text::reader::Reading;
 use text::reader::read_settings;
+use values::value;
 use word::decimal::Decimal;
 use word::decimal::Shown;
 use word::number;
@@ -665,7 +666,7 @@ fn beside(name: &[u8], made: Made) {
     let mut n: usize = 0;
     let mut i: usize = 0;
     while i < Settings::LINES {
-        if settings.value(i) != 0 {
+        if value(settings, i) != 0 {
             n += 1;
         }
         i += 1;

@@ -8,6 +8,7 @@ ghost use Rattle.writer.specs.Lines.{lineOf, textOf};
 ghost use Rattle.writer.specs.Writer.{writtenOf, bufferAfter};
 use settings::Settings;
 use settings::table::Row;
+use values::value;
 use word::buffer::put;
 use word::buffer::put_signed;
 
@@ -43,7 +44,7 @@ fn put_lines(settings: Settings, buffer: &mut [u8]) -> usize
     let mut at: usize = 0;
     let mut i: usize = 0;
     while i < Settings::LINES {
-        at = put_line(buffer, at, Row::at(i), settings.value(i));
+        at = put_line(buffer, at, Row::at(i), value(settings, i));
         i += 1;
     }
     at

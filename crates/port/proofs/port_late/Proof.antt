@@ -26,8 +26,8 @@ returns c =
 values-of-requires : tie.Need-values-of-requires
 values-of-requires c κs = search needs
 
-of-requires : tie.Need-of-requires
-of-requires c κs = search needs
+settings-of-requires : tie.Need-settings-of-requires
+settings-of-requires c κs = search needs
 
 remembering-requires : tie.Need-remembering-requires
 remembering-requires c κs = search needs
@@ -50,7 +50,7 @@ returns-2 c =
     let s = v .before .before in
     let n = eq-eqb (length (now (s .args .values))) lines (v .before .if1 .left) in
     let l : r .remembering .result ≡ rememberingOf (settingsOf (now (s .args .values))) (s .args .last) (now (s .args .earlier)) (now (s .args .answered)) = rw (
-      r .before .of .ensures,
+      r .before .settings-of .ensures,
       v .values-of .ensures,
     ) at (r .remembering .ensures) in
     let e = rw (toZ-ofZ (s .fits .value)) at (d .late .ensures) in
@@ -68,7 +68,7 @@ port-late-spec =
     (tie.spec
     returns
     values-of-requires
-    of-requires
+    settings-of-requires
     remembering-requires
     late-requires
     cast-result

@@ -22,8 +22,8 @@ returns c =
 values-of-requires : tie.Need-values-of-requires
 values-of-requires c κs = search needs
 
-of-requires : tie.Need-of-requires
-of-requires c κs = search needs
+settings-of-requires : tie.Need-settings-of-requires
+settings-of-requires c κs = search needs
 
 ready-requires : tie.Need-ready-requires
 ready-requires c κs = search needs
@@ -50,7 +50,7 @@ returns-2 c =
       toZ-ofZ (s .fits .target),
       toZ-ofZ (s .fits .before),
       toZ-ofZ (s .fits .held),
-      r .before .of .ensures,
+      r .before .settings-of .ensures,
       v .values-of .ensures,
     ) at (r .ready .ensures) in
     let e = d .replay .ensures in (
@@ -64,7 +64,7 @@ port-replay-spec =
     (tie.spec
     returns
     values-of-requires
-    of-requires
+    settings-of-requires
     ready-requires
     replay-requires
     cast-result

@@ -230,8 +230,8 @@ loop-again c =
           p),
     )
 
-of-requires : tie.Need-of-requires Inv-loop μ-loop
-of-requires c κs = search needs
+settings-of-requires : tie.Need-settings-of-requires Inv-loop μ-loop
+settings-of-requires c κs = search needs
 
 filled-requires : tie.Need-filled-requires Inv-loop μ-loop
 filled-requires c κs = search needs
@@ -253,7 +253,7 @@ returns-2 c =
     c .read-end .ensures
     ∙ ap (λ (y : Settings). readEnd y (length x))
     (c .before .filled .ensures
-    ∙ ap (filled k) (c .before .before .of .ensures)
+    ∙ ap (filled k) (c .before .before .settings-of .ensures)
     ∙ sym (filled-picked h (m .0) (m .1) (l .values) (l .inv .1) (l .inv .3) k (omega (arith, few .0)) (few .1))
     ∙ ap (λ (n : ℕ). filled k (settingsOf (completed h (take n (picked h (l .values)))))) (sym i))
     ∙ sym (l .inv .4 ∙ lines-done h k (l .i + 1) (take (l .i) (picked h (l .values))) x (l .i) (m .1) (c .before .before .before .loop-test .left))
@@ -286,7 +286,7 @@ read-settings-spec =
     add-i
     loop-less
     loop-again
-    of-requires
+    settings-of-requires
     filled-requires
     read-end-requires
     returns-2)

@@ -1,8 +1,8 @@
 use native.Mathlib.Omega.{arith}
 use Rattle.settings.proofs.Rows.{settings-back}
 use borrow.Author.Needs.{needs}
-use Rattle.settings.proofs.Settings.of.Statement.{statement}
-use Rattle.settings.proofs.Settings.of.Tie as tie
+use Rattle.values.proofs.settings_of.Statement.{statement}
+use Rattle.values.proofs.settings_of.Tie as tie
 
 sets-of-requires : tie.Need-sets-of-requires
 sets-of-requires c κs = search needs
@@ -44,8 +44,8 @@ returns c =
     (search needs)
     (c .before .before .before .before .before .before .before .before .sets-of .ensures)
 
-pub of-spec : {M : Type 1} → statement M
-of-spec =
+pub settings-of-spec : {M : Type 1} → statement M
+settings-of-spec =
     tie.close
     (tie.spec
     sets-of-requires

@@ -6,21 +6,21 @@ use native.Mathlib.Omega.{arith}
 use lib.ListN.{length, take, length-set, replicate, replicate-append-replicate}
 use lib.Seq.{take-all}
 use Rattle.whole.proofs.Lists.{set-take}
 use Rattle.settings.specs.declared.Gains.{Gains}
 use Rattle.settings.specs.Table.{sets}
 use Rattle.settings.specs.Settings.{gainsAt}
 use Rattle.settings.proofs.Fit.{settings-fit}
 use Rattle.settings.proofs.Values.{filled-is}
 use borrow.Author.Needs.{needs}
-use Rattle.settings.proofs.Settings.filled.Statement.{statement}
-use Rattle.settings.proofs.Settings.filled.Tie as tie
+use Rattle.values.proofs.filled.Statement.{statement}
+use Rattle.values.proofs.filled.Tie as tie
 
 abbrev Inv-loop : tie.InvT-loop
-Inv-loop self n gains₀ first k₀ gains k =
+Inv-loop settings n gains₀ first k₀ gains k =
     (n ≤ k) × (k - n ≤ sets - n) × (length gains ≡ sets) × (take k gains ≡ take n gains₀ ++ replicate (k - n) (gainsAt gains₀ 0))
 
 abbrev μ-loop : tie.MeasureT-loop
-μ-loop self n gains₀ first k₀ gains k = sets - k
+μ-loop settings n gains₀ first k₀ gains k = sets - k
 
 array-copy-out-first : tie.Need-array-copy-out-first Inv-loop μ-loop
 array-copy-out-first c = search needs
@@ -35,7 +35,7 @@ loop-holds : tie.Need-loop-holds Inv-loop μ-loop
 loop-holds c =
     let a = c .before .before .args in
     let z : a .n - a .n ≡ 0 = omega arith in
-    (omega arith, omega arith, settings-fit (a .self) (c .before .before .good .0) .sets, rw (z, append-nil (take (a .n) (a .self .gains))))
+    (omega arith, omega arith, settings-fit (a .settings) (c .before .before .good .0) .sets, rw (z, append-nil (take (a .n) (a .settings .gains))))
 
 mul-gains : tie.Need-mul-gains Inv-loop μ-loop
 mul-gains c = omega arith
@@ -47,7 +47,7 @@ loop-again : tie.Need-loop-again Inv-loop μ-loop
 loop-again c =
     let l = c .before .loop in
     let a = c .before .before .before .before .args in
-    let g = gainsAt (a .self .gains) 0 in
+    let g = gainsAt (a .settings .gains) 0 in
     let n : length (l .gains) ≡ sets = l .inv .2 in
     let m : l .k + 1 - a .n ≡ l .k - a .n + 1 = omega (arith, l .inv .0) in (
       omega arith,
@@ -55,8 +55,8 @@ loop-again c =
       simp length-set n,
       set-take (l .gains) (l .k) g (omega arith)
           ∙ ap (λ (gs : List Gains). gs ++ (g ∷ [])) (l .inv .3)
-          ∙ append-assoc (take (a .n) (a .self .gains)) (replicate (l .k - a .n) g) (g ∷ [])
-          ∙ ap (λ (gs : List Gains). take (a .n) (a .self .gains) ++ gs) (replicate-append-replicate (l .k - a .n) 1 g ∙ ap (λ (j : ℕ). replicate j g) (sym m)),
+          ∙ append-assoc (take (a .n) (a .settings .gains)) (replicate (l .k - a .n) g) (g ∷ [])
+          ∙ ap (λ (gs : List Gains). take (a .n) (a .settings .gains) ++ gs) (replicate-append-replicate (l .k - a .n) 1 g ∙ ap (λ (j : ℕ). replicate j g) (sym m)),
     )
 
 returns : tie.Need-returns Inv-loop μ-loop
@@ -64,7 +64,7 @@ returns c =
     let l = c .before .loop in
     let a = c .before .before .before .before .args in
     let m : l .k - a .n ≡ sets - a .n = omega (arith, c .loop-test .left, l .inv .1) in
-    filled-is (a .n) (a .self) (sym (take-all (l .k) (l .gains) (omega (arith, c .loop-test .left, l .inv .2))) ∙ l .inv .3 ∙ ap (λ (j : ℕ). take (a .n) (a .self .gains) ++ replicate j (gainsAt (a .self .gains) 0)) m)
+    filled-is (a .n) (a .settings) (sym (take-all (l .k) (l .gains) (omega (arith, c .loop-test .left, l .inv .2))) ∙ l .inv .3 ∙ ap (λ (j : ℕ). take (a .n) (a .settings .gains) ++ replicate j (gainsAt (a .settings .gains) 0)) m)
 
 pub filled-spec : {M : Type 1} → statement M
 filled-spec =

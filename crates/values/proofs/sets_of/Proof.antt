@@ -6,13 +6,13 @@ use native.Mathlib.Numerals.{add-one}
 use native.Mathlib.Omega.{arith}
 use lib.ListN.{length, take, length-set}
 use lib.Seq.{take-suc-set, take-all}
 use Rattle.settings.specs.declared.Gains.{Gains}
 use Rattle.settings.specs.Table.{heads, sets}
 use Rattle.settings.specs.Settings.{setsFrom}
 use Rattle.settings.proofs.Rows.{sets-next}
 use borrow.Author.Needs.{needs}
-use Rattle.settings.proofs.Settings.sets_of.Statement.{statement}
-use Rattle.settings.proofs.Settings.sets_of.Tie as tie
+use Rattle.values.proofs.sets_of.Statement.{statement}
+use Rattle.values.proofs.sets_of.Tie as tie
 
 abbrev Inv-loop : tie.InvT-loop
 Inv-loop values gains₀ k₀ gains k = (k ≤ sets) × (length gains ≡ sets) × (take k gains ≡ setsFrom heads k values)
@@ -26,14 +26,14 @@ blank-requires c κs = search needs
 loop-holds : tie.Need-loop-holds Inv-loop μ-loop
 loop-holds c = (omega arith, refl, refl)
 
-mul-from : tie.Need-mul-from Inv-loop μ-loop
-mul-from c = omega arith
+mul-gains-from : tie.Need-mul-gains-from Inv-loop μ-loop
+mul-gains-from c = omega arith
 
-add-from : tie.Need-add-from Inv-loop μ-loop
-add-from c = omega arith
+add-gains-from : tie.Need-add-gains-from Inv-loop μ-loop
+add-gains-from c = omega arith
 
-from-requires : tie.Need-from-requires Inv-loop μ-loop
-from-requires c κs = omega arith
+gains-from-requires : tie.Need-gains-from-requires Inv-loop μ-loop
+gains-from-requires c κs = omega arith
 
 mul-gains : tie.Need-mul-gains Inv-loop μ-loop
 mul-gains c = omega arith
@@ -56,7 +56,7 @@ loop-again c =
       simp length-set n,
       rw (add-one (l .k))
           (take-suc-set (l .gains) (l .k) _ (omega arith)
-          ∙ ap₂ (λ (gs : List Gains) (g : Gains). gs ++ (g ∷ [])) (l .inv .2) (c .from .ensures)
+          ∙ ap₂ (λ (gs : List Gains) (g : Gains). gs ++ (g ∷ [])) (l .inv .2) (c .gains-from .ensures)
           ∙ sym (sets-next heads (l .k) vs)),
     )
 
@@ -74,9 +74,9 @@ sets-of-spec =
     μ-loop
     blank-requires
     loop-holds
-    mul-from
-    add-from
-    from-requires
+    mul-gains-from
+    add-gains-from
+    gains-from-requires
     mul-gains
     array-set-from-gains
     add-k
