@@ -1,4 +1,4 @@
-// The commands but a sample.
+// The commands but a sample. They refuse nothing: the law asks `refusal` first, and a program goes through the law.
 ghost use mathlib.Core.Path.{_≡_};
 ghost use Rattle.record.specs.Commands.{holdOf, putOf, automaticOf, targetOf, setOf};
 use crate::Loop;
