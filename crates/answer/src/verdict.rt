@@ -6,7 +6,7 @@ use delivery::numbered::Numbered;
 
 // The loop that the line leaves, and how many bytes from the lent buffer's first on answer the line; or the code of its
 // refusal, and no bytes.
-#[derive(Drop)]
+#[derive(Clone, Copy)]
 pub struct Judged {
     pub code: u8,
     pub state: Numbered,

@@ -1,8 +1,10 @@
 // The commands that a loop is given, and which of them are the same.
+#![tactic(auto)]
+
 ghost use Rattle.std.specs.Prelude.{◌≡◌};
 ghost use Rattle.command.specs.Command.{kind_of, value_of, second_of, same as Command·same};
 
-#[derive(Drop)]
+#[derive(Clone, Copy)]
 pub enum Command {
     Sample(i32),
     Hold,

@@ -8,20 +8,20 @@ use pid::law::obey;
 use record::Loop;
 use settings::Settings;
 
-#[derive(Drop)]
+#[derive(Clone, Copy)]
 pub struct Numbered {
     pub state: Loop,
     pub memory: Memory,
 }
 
-#[derive(Drop)]
+#[derive(Clone, Copy)]
 pub struct Made {
     pub code: u8,
     pub state: Numbered,
 }
 
 // "An answer is a code, the output in force and the last number in force", and the record stands beside it.
-#[derive(Drop)]
+#[derive(Clone, Copy)]
 pub struct Delivered {
     pub code: u8,
     pub output: i32,

@@ -6,7 +6,7 @@ ghost use Rattle.delivery.specs.Replay.{numbers_left, refused_of, stopped_of, re
 use crate::numbered::Numbered;
 use pid::play::play;
 
-#[derive(Drop)]
+#[derive(Clone, Copy)]
 pub struct Replayed {
     pub code: u8,
     pub place: usize,

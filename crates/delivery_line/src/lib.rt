@@ -1,4 +1,6 @@
 // A delivery as a line of text: a command under a number. It knows no loop.
+#![tactic(auto)]
+
 ghost use Rattle.std.specs.Prelude.{◌≡◌};
 ghost use Rattle.delivery_line.specs.Line.{word_in, rest_in, field_in, same_word, command_of, asking, delivery_of};
 
@@ -8,14 +10,14 @@ use word::end::{begins, end_at};
 use word::number::{Number, signed};
 
 // What a line asks: a command under a number, or it is of wrong form.
-#[derive(Drop)]
+#[derive(Clone, Copy)]
 pub enum Delivery {
     Is(u32, Command),
     Wrong,
 }
 
 // The command of a line, or none.
-#[derive(Drop)]
+#[derive(Clone, Copy)]
 enum Asked {
     Is(Command),
     Wrong,

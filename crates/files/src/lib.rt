@@ -1,10 +1,12 @@
 // The files of the two programs: a settings file, and a file of lines that is read in pieces. All that is written comes
 // from `stream`. What cannot be opened, read or written is told on standard error, and nothing more is written.
+#![tactic(auto)]
+
 use libc::{STDERR_FILENO, STDOUT_FILENO};
 use stream::run::Run;
 
 // What a turn leaves: whether there is more to do, whether all went well, and the run.
-#[derive(Drop)]
+#[derive(Clone, Copy)]
 struct Left {
     more: bool,
     well: bool,

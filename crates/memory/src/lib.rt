@@ -1,5 +1,7 @@
 // What is remembered of the deliveries, and what it says of a number: it looks into no loop. Its definitions are in
 // specs/Memory.antt; specs/Walk.antt has the walk over any law.
+#![tactic(auto)]
+
 ghost use Rattle.std.specs.Prelude.{◌≡◌, ◌<◌, ◌≤◌, min, pos, length, get_or};
 ghost use Rattle.command.specs.declared.Command.TheVariants.{Sample};
 ghost use Rattle.memory.specs.Memory.{window, is_last, entry_of, no_entry, entry_ok, no_memory, memory_ok, found_in, found_of, remembered, entries_of, newest, filled_of};
@@ -7,28 +9,28 @@ ghost use Rattle.memory.specs.Memory.{window, is_last, entry_of, no_entry, entry
 use command::Command;
 
 // One of the last commands kept, or nothing where there is none.
-#[derive(Drop)]
+#[derive(Clone, Copy)]
 pub enum Last {
     Nothing,
     Kept(Command),
 }
 
 // A kept command "with the output" it "was answered".
-#[derive(Drop)]
+#[derive(Clone, Copy)]
 pub struct Entry {
     pub command: Last,
     pub output: i32,
 }
 
 // "last number (32 bits unsigned)", and "the last 32 kept commands", newest first: place i has the last number less i.
-#[derive(Drop)]
+#[derive(Clone, Copy)]
 pub struct Memory {
     pub number: u32,
     pub entries: [Entry; Memory::WINDOW],
 }
 
 // What becomes of a delivery by its number, and by its command where one is remembered under that number.
-#[derive(Drop)]
+#[derive(Clone, Copy)]
 pub enum Found {
     Old,
     Reused,

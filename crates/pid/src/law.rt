@@ -13,7 +13,7 @@ use record::Loop;
 use settings::Gains;
 use window::Window;
 
-#[derive(Drop)]
+#[derive(Clone, Copy)]
 pub struct Obeyed {
     pub code: u8,
     pub state: Loop,

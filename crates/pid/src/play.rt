@@ -11,7 +11,7 @@ use crate::sample::{Fixed, Moving, act, sense};
 use record::Loop;
 use temperature::raw_after;
 
-#[derive(Drop)]
+#[derive(Clone, Copy)]
 pub struct Played {
     pub code: u8,
     pub place: usize,

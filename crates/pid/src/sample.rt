@@ -11,7 +11,7 @@ ghost use Rattle.pid.specs.Sample.{lesser, greater, limited, ramped, filtered, d
 use record::Loop;
 
 // What stays while samples come: the sign s, the limits times F, target, rate, mode, and the gain set in force.
-#[derive(Drop)]
+#[derive(Clone, Copy)]
 pub struct Fixed {
     pub sign: i64,
     pub lo: i64,
@@ -27,7 +27,7 @@ pub struct Fixed {
 }
 
 // What a sample moves.
-#[derive(Drop)]
+#[derive(Clone, Copy)]
 pub struct Moving {
     pub w: i64,
     pub u: i64,
@@ -38,7 +38,7 @@ pub struct Moving {
 }
 
 // What the first half finds: w and y as they become, the error e, P and D.
-#[derive(Drop)]
+#[derive(Clone, Copy)]
 pub struct Sensed {
     pub w: i64,
     pub y: i64,

@@ -1,4 +1,6 @@
 // The replay, and a delivery after it, for programs in other languages: what the benchmark and the host's tests link.
+#![tactic(auto)]
+
 ghost use Rattle.std.specs.Prelude.{◌≡◌, length};
 ghost use Rattle.settings.specs.Table.{lines};
 ghost use Rattle.delivery.specs.Replay.{written_of};

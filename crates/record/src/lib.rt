@@ -1,6 +1,8 @@
 // What a loop remembers, the state rules, and the making of a loop from settings; what is wrong with a command's content, what the
 // commands do that are no samples, and how many samples remain until w is at its target. Each module has its definitions in specs/
 // under the same name, and what stands here has them in specs/Record.antt.
+#![tactic(auto)]
+
 ghost use Rattle.std.specs.Prelude.{◌≡◌};
 ghost use Rattle.record.specs.Record.{fresh_of, blank_loop, made_of, places_ok, fine_ok, pending_ok, guard_of, valid};
 
@@ -12,7 +14,7 @@ mod commands;
 mod refusals;
 mod remaining;
 
-#[derive(Drop)]
+#[derive(Clone, Copy)]
 pub struct Loop {
     pub settings: Settings,
     pub automatic: bool,
@@ -29,7 +31,7 @@ pub struct Loop {
     pub raw: i32,
 }
 
-#[derive(Drop)]
+#[derive(Clone, Copy)]
 pub struct Made {
     pub code: u8,
     pub state: Loop,

@@ -1,11 +1,13 @@
 // The settings of a loop, and what is wrong with them.
+#![tactic(auto)]
+
 ghost use Rattle.std.specs.Prelude.{◌≡◌};
 ghost use Rattle.settings.specs.Settings.{no_gains, blank_settings, ordered, settings_refusal};
 
 pub mod table;
 
 // One gain set.
-#[derive(Drop)]
+#[derive(Clone, Copy)]
 pub struct Gains {
     pub kp: i32,
     pub ki: i32,
@@ -14,7 +16,7 @@ pub struct Gains {
     pub kt: i32,
 }
 
-#[derive(Drop)]
+#[derive(Clone, Copy)]
 pub struct Settings {
     pub action: i32,
     pub lo: i32,

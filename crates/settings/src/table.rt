@@ -7,7 +7,7 @@ use crate::{Gains, Settings};
 use word::buffer::{put, put_unsigned};
 
 // A settings key, how many bytes it has, and the least and the most of the value.
-#[derive(Drop)]
+#[derive(Clone, Copy)]
 pub struct Row(pub [u8; Row::LONGEST], pub usize, pub i32, pub i32);
 
 // "The ranges of the settings are one constant table of rows, which reader, writer and maker all consult." The first have

@@ -11,7 +11,7 @@ use word::end::end_at;
 
 // What comes back: whether the lent buffer had room, the run, and how many bytes from the buffer's first on are to be
 // written. Without room nothing was done.
-#[derive(Drop)]
+#[derive(Clone, Copy)]
 pub struct Ran {
     pub done: bool,
     pub run: Run,

@@ -8,7 +8,7 @@ use word::buffer::{put, put_unsigned};
 
 // A run that is under way: the first len of the bytes are those of the line under way, whose number in the file is line.
 // The lines are deliveries for the journal, else samples. Once ended, nothing more is written.
-#[derive(Drop)]
+#[derive(Clone, Copy)]
 pub struct Run {
     pub ended: bool,
     pub journal: bool,
@@ -27,7 +27,7 @@ impl Run {
 }
 
 // What a step leaves, and how many bytes it put, from the lent buffer's first on.
-#[derive(Drop)]
+#[derive(Clone, Copy)]
 pub(crate) struct Told {
     pub run: Run,
     pub len: usize,

@@ -1,4 +1,6 @@
 // A raw temperature: whether it is taken, and which of a list is the first that is not.
+#![tactic(auto)]
+
 ghost use Rattle.std.specs.Prelude.{◌≡◌};
 ghost use Rattle.temperature.specs.Temperature.{raw_ok, further, jumps, code_of, past, bad_of, raw_after};
 
@@ -6,7 +8,7 @@ use settings::Settings;
 
 // What a sample is held against: the loop's mode, whether there was a sample before, how far from that it may be, and "the last
 // kept raw temperature".
-#[derive(Drop)]
+#[derive(Clone, Copy)]
 pub struct Guard {
     pub automatic: bool,
     pub primed: bool,
@@ -15,7 +17,7 @@ pub struct Guard {
 }
 
 // The earliest bad sample of a list: its code and its place. Where none is bad, 0 and the length.
-#[derive(Drop)]
+#[derive(Clone, Copy)]
 pub struct Bad {
     pub code: u8,
     pub place: usize,

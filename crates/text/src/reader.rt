@@ -11,7 +11,7 @@ use word::decimal::Decimal;
 use word::end::{begins, end_at};
 
 // What a text is read as. The line is that of codes 14 and 15; beside any code but 0 stand blank settings.
-#[derive(Drop)]
+#[derive(Clone, Copy)]
 pub struct Reading {
     pub code: u8,
     pub line: usize,
@@ -22,7 +22,7 @@ pub struct Reading {
 const SHORT_SETS: usize = 4;
 
 // What a line is read as: code 14, 15 or 0, and its value where that is 0.
-#[derive(Drop)]
+#[derive(Clone, Copy)]
 struct Line {
     code: u8,
     value: i32,

@@ -1,5 +1,7 @@
 // Runs the reader, the writer and one decimal on cases whose answers the papers fix. Each case writes a line: its name, the code,
 // then the reader's line or the writer's length. The file stdout has what the papers say.
+#![tactic(auto)]
+
 ghost use Rattle.std.specs.Prelude.{◌≤◌, length};
 
 use libc::STDOUT_FILENO;
@@ -63,7 +65,7 @@ const BOTH: usize = 9;
 // Room for any text of these cases.
 const ROOM: usize = 1100;
 
-#[derive(Drop)]
+#[derive(Clone, Copy)]
 struct Made {
     bytes: [u8; ROOM],
     len: usize,

@@ -1,4 +1,6 @@
 // The settings' values by the place of their rows, as a text has them. The definitions are those of settings/specs/Settings.antt.
+#![tactic(auto)]
+
 ghost use Rattle.std.specs.Prelude.{◌≡◌, ◌+◌, ◌<◌, ◌≤◌, pos, get_or};
 ghost use Rattle.settings.specs.Table.{heads, keys, sets, lines};
 ghost use Rattle.settings.specs.Settings.{gain_values, gains_from, sets_from, head_values, values_of, settings_of, unread, filled};

@@ -1,4 +1,6 @@
 // Signed whole numbers: what other crates share of them. What their definitions and proofs share is in specs/ and proofs/.
+#![tactic(auto)]
+
 ghost use Rattle.std.specs.Prelude.{◌≡◌};
 ghost use Rattle.whole.specs.Numbers.{plus, size, eq_z, inside};
 

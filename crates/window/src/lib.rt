@@ -1,4 +1,6 @@
 // The window of raw temperatures ahead of the filter: its rules, what it takes, and the mean of the last of them.
+#![tactic(auto)]
+
 ghost use Rattle.std.specs.Prelude.{◌≡◌, ◌+◌, ◌≤◌, min, take};
 ghost use Rattle.whole.specs.Numbers.{Within, size};
 ghost use Rattle.whole.specs.Rounding.{nearest};
@@ -11,7 +13,7 @@ use settings::Settings;
 pub mod means;
 
 // "kept in a window of 128 places", newest first, and how many temperatures are seen.
-#[derive(Drop)]
+#[derive(Clone, Copy)]
 pub struct Window {
     pub places: [i32; Settings::WINDOW],
     pub seen: usize,

@@ -13,7 +13,7 @@ use settings::Settings;
 use temperature::{Bad, Guard};
 
 // The newest temperatures that a mean goes over: how many there are, and their sum.
-#[derive(Drop)]
+#[derive(Clone, Copy)]
 pub struct Summed {
     pub n: usize,
     pub sum: i64,

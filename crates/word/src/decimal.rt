@@ -5,14 +5,14 @@ ghost use Rattle.word.specs.declared.decimal.Size.TheVariants.{Is, Wrong};
 ghost use Rattle.word.specs.Decimal.{long_digits, is_size, has_minus, unsigned, size_of, lowest, signed_of, decimal_of, shown, decimal, padded};
 
 // What a word is: the number that it stands for, or no decimal.
-#[derive(Drop)]
+#[derive(Clone, Copy)]
 pub enum Decimal {
     Is(i32),
     Wrong,
 }
 
 // What digits are: the number that they make, or no number.
-#[derive(Drop)]
+#[derive(Clone, Copy)]
 pub(crate) enum Size {
     Is(u64),
     Wrong,
@@ -114,7 +114,7 @@ impl Decimal {
 }
 
 // A text of at most eleven bytes, which stands at their end; from is the place of its first byte.
-#[derive(Drop)]
+#[derive(Clone, Copy)]
 pub struct Shown {
     pub bytes: [u8; Shown::ROOM],
     pub from: usize,

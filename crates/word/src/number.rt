@@ -5,7 +5,7 @@ ghost use Rattle.word.specs.Number.{number_in, signed_in};
 use crate::decimal::{Decimal, Size, signed_of, size_of};
 
 // What a word is: the number without a sign that it stands for, or no such number.
-#[derive(Drop)]
+#[derive(Clone, Copy)]
 pub enum Number {
     Is(u32),
     Wrong,

@@ -1,4 +1,6 @@
 // The settings' writer: the text that settings have, specs/Lines.antt, and what comes of writing it, specs/Writer.antt.
+#![tactic(auto)]
+
 ghost use Rattle.std.specs.Prelude.{◌≡◌, ◌+◌, ◌≤◌, length};
 ghost use Rattle.std.proofs.lemmas.List.Edits.{sets};
 ghost use Rattle.settings.specs.Table.{longest_key};
@@ -11,7 +13,7 @@ use values::value;
 use word::buffer::{put, put_signed};
 
 // What the writer answers: the length is that of the text, 0 beside any code but 0.
-#[derive(Drop)]
+#[derive(Clone, Copy)]
 pub struct Written {
     pub code: u8,
     pub len: usize,

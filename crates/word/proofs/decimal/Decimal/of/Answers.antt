@@ -1,0 +1,7 @@
+use mathlib.Core.Path.{◌∙◌}
+use borrow.Author.Rules.{rules}
+use Rattle.word.proofs.Digits.{within_bits}
+use Rattle.word.proofs.decimal.Decimal.of.Goals as goal
+
+pub returns : goal.returns
+returns c = c.signed_of.ensures ∙ within_bits c.args.word.now

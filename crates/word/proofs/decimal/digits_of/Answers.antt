@@ -1,0 +1,20 @@
+use Prim.Native.Nat.{◌+◌, ◌%◌}
+use mathlib.Core.Path.{◌≡◌, refl}
+use mathlib.Core.List.{[], ◌∷◌}
+use native.Mathlib.Omega.{arith}
+use Rattle.word.proofs.Decimals.{shown_last}
+use Rattle.word.proofs.Shows.{Partly, partly_place, partly_more, partly_all, ends_padded}
+use Rattle.word.proofs.decimal.digits_of.Goals as goal
+
+pub loop-left-init : goal.loop-left-init
+loop-left-init c = record {
+  tail = (48 + c.args.n % 10) ∷ [];
+  ends = record { long = refl; are = refl };
+  room = omega arith;
+  digits = shown_last c.args.n;
+}
+
+pub loop-left-preserved : goal.loop-left-preserved
+loop-left-preserved c =
+    let l = c.loop-left in
+    partly_more c.args.n l.left l.from l.bytes c.loop-left-test.true l.invariant

@@ -1,0 +1,29 @@
+use Prim.Native.Nat.{ℕ, ◌+◌, ◌-◌, ◌*◌, ◌^◌, ◌<◌, ◌≤◌}
+use mathlib.Core.Path.{◌≡◌, sym, ap, ◌∙◌}
+use mathlib.Core.Bool.{true, false, cond}
+use mathlib.Core.List.{List}
+use native.Mathlib.Omega.{arith}
+use borrow.Author.Tests.{not-true, not-false}
+use lib.ListN.{length, get_or, drop, drop_of_length-le}
+use Rattle.whole.proofs.Truth.{never, cond_no}
+use Rattle.whole.proofs.Lists.{next}
+use Rattle.word.specs.declared.decimal.Size.{Size}
+use Rattle.word.specs.declared.decimal.Size.TheVariants.{Is, Wrong}
+use Rattle.word.specs.Decimal.{is_digit, all_digits, long_digits, size_from, size_of}
+use Rattle.word.proofs.Digits.{Digit, digit, unsized, size_if_digits, size_in, step_bound, small}
+use Rattle.word.proofs.decimal.size_of.Goals as goal
+
+pub returns-then-length-lt1 : goal.returns-then-length-lt1
+returns-then-length-lt1 c = sym (cond_no _ _ (unsized _ _ (λ s. omega (arith, s.some))))
+
+pub returns-then-most-length : goal.returns-then-most-length
+returns-then-most-length c = sym (cond_no _ _ (unsized _ _ (λ s. omega (arith, s.few))))
+
+pub returns-then-leading_zero : goal.returns-then-leading_zero
+returns-then-leading_zero c = sym (cond_no _ _ (unsized _ _ (λ s. never (sym s.lead ∙ c.if-leading_zero.true))))
+
+pub loop-i-init : goal.loop-i-init
+unfolding size_of
+loop-i-init c =
+    let a = c.args in
+    (omega arith, omega arith, omega arith, rw (size_if_digits a.most a.word.now (omega arith) (omega arith) c.if-leading_zero.false))
