@@ -1,0 +1,7 @@
+use Rattle.settings.specs.Settings.{blank_settings}
+use borrow.Author.Rules.{rules}
+use Rattle.settings.proofs.Settings.blank.Goals as goal
+
+pub returns : goal.returns
+unfolding blank_settings
+returns c = rw c.blank.ensures

@@ -1,0 +1,25 @@
+use Prim.Native.Nat.{◌≤◌}
+use mir.Facts.{to_z-of_z}
+use native.Mathlib.Omega.{arith}
+use Rattle.word.specs.Decimal.{shown}
+use Rattle.word.proofs.Shows.{shown_room}
+use Rattle.settings.proofs.Rows.{numbered_is}
+use borrow.Author.Rules.{rules}
+use Rattle.settings.proofs.table.Row.numbered.Goals as goal
+use Rattle.settings.proofs.table.Row.numbered.Goals.{After-put_unsigned}
+
+-- the set's number has few digits
+few : (c : After-put_unsigned) → c.put_unsigned.result ≤ 10
+few c = rw c.put_unsigned.ensures.value (shown_room _ (omega arith))
+
+pub overflow_add-end : goal.overflow_add-end
+overflow_add-end c = omega (arith, few (goal.at.overflow_add-end c).After-put_unsigned)
+
+pub overflow_add-result : goal.overflow_add-result
+overflow_add-result c = ?
+
+pub returns : goal.returns
+returns c =
+    
+    let a = c.args in
+    numbered_is a.self a.k c.put_unsigned.result c.put_unsigned.ensures.value c.put_unsigned.ensures.buffer_after c.put.ensures (to_z-of_z (search rules)) (to_z-of_z (search rules))
