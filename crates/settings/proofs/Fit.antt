@@ -54,7 +54,7 @@ pub gains_fit : (g : Gains) → Is G.the_row g (val G.the_type G'.the_laws g ∷
 gains_fit g is = gains_held g _ is
 
 -- a gain set of several
-one_held : (gs : List Gains) (us : List Val) → shadow (each (G.the_field).row.Denot (G.the_field).row.own_val (map (G.the_field).into gs) us) →
+one_held : (gs : List Gains) (us : List Val) → shadow (each (G.the_row).Denot (G.the_row).own_val gs us) →
     (k : ℕ) → k < length gs → GainsFit (gains_at gs k)
 one_held [] us p k h = absurd (omega arith)
 one_held (g ∷ gs) [] p k h = absurd p
@@ -73,6 +73,6 @@ settings_fit s is =
       rate = record { sfits = o.1.1.1.1.1.0.1 };
       mean = record { sfits = o.1.1.1.1.1.1.0.1 };
       jump = record { sfits = o.1.1.1.1.1.1.1.0.1 };
-      sets = simp length-map at o.1.1.1.1.1.1.1.1.0.1.0.1;
+      sets = o.1.1.1.1.1.1.1.1.0.1.0.1;
       gains = one_held s.gains _ o.1.1.1.1.1.1.1.1.0.1.1;
     }

@@ -16,7 +16,7 @@ returns c =
     
     
     
-    let f = settings_fit c.args.self c.well-formed.0 in
+    let f = settings_fit c.args.self c.well_formed.0 in
     meet (c.takes.ensures ∙ held 0 f.action)
     (meet (c.takes-2.ensures ∙ held 1 f.lo)
     (meet (c.takes-3.ensures ∙ held 2 f.hi)

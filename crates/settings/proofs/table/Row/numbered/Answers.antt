@@ -1,5 +1,6 @@
 use Prim.Native.Nat.{◌≤◌}
 use mir.Facts.{to_z-of_z}
+use mir.Syntax.{w32}
 use native.Mathlib.Omega.{arith}
 use Rattle.word.specs.Decimal.{shown}
 use Rattle.word.proofs.Shows.{shown_room}
@@ -16,10 +17,9 @@ pub overflow_add-end : goal.overflow_add-end
 overflow_add-end c = omega (arith, few (goal.at.overflow_add-end c).After-put_unsigned)
 
 pub overflow_add-result : goal.overflow_add-result
-overflow_add-result c = ?
+overflow_add-result c = omega (arith, few (goal.at.overflow_add-result c).After-put_unsigned)
 
 pub returns : goal.returns
 returns c =
-    
     let a = c.args in
-    numbered_is a.self a.k c.put_unsigned.result c.put_unsigned.ensures.value c.put_unsigned.ensures.buffer_after c.put.ensures (to_z-of_z (search rules)) (to_z-of_z (search rules))
+    numbered_is a.self a.k c.put_unsigned.result c.put_unsigned.ensures.value c.put_unsigned.ensures.buffer_after c.put.ensures (to_z-of_z {w = w32} (search rules)) (to_z-of_z {w = w32} (search rules))
