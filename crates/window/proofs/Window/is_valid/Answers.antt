@@ -1,0 +1,27 @@
+use Prim.Native.Nat.{ℕ, ◌+◌, ◌-◌, ◌≤◌}
+use mathlib.Core.Path.{◌≡◌, refl, sym, ap, ◌∙◌}
+use mathlib.Core.Bool.{Bool, true, false, ◌&&◌}
+use mathlib.Core.List.{List}
+use native.Mathlib.Omega.{arith}
+use borrow.Author.Rules.{rules}
+use lib.Dec.{leb, ltb}
+use lib.IntN.{ℤ, pos}
+use lib.ListN.{drop, get_or, drop_of_length-le}
+use mir.Facts.{to_z-of_z}
+use Rattle.settings.specs.Table.{window}
+use Rattle.window.specs.Window.{place_ok, places_ok, window_ok}
+use Rattle.window.proofs.Fit.{window_fit}
+use Rattle.window.proofs.Rules.{places_next}
+use Rattle.window.proofs.Window.is_valid.Goals as goal
+
+and_true : (a : Bool) → (a && true) ≡ a
+and_true true = refl
+and_true false = refl
+
+pub returns : goal.returns
+unfolding window_ok
+returns c =
+    let l = c.loop-i in
+    let f = window_fit c.args.self c.well_formed.0 in
+    let d = drop_of_length-le c.args.self.places {i = l.i} (omega (arith, f.places, c.loop-i-test.false)) in
+    sym (l.invariant.1 ∙ ap (λ (xs : List ℤ). l.ok && places_ok (c.args.self.seen - l.i) xs) d ∙ and_true l.ok)
