@@ -49,6 +49,7 @@ impl Loop {
     }
 
     // The code of what is wrong with a command's content, and 0 where the law accepts it.
+    #[tactic(auto, unfolding(crate::specs::Refusals::refusal_of))]
     pub fn refusal(self, c: Command) -> u8
         ensures { result ≡ refusal_of self c }
     {

@@ -1,0 +1,15 @@
+use mir.Facts.{to_z-of_z}
+use Rattle.whole.proofs.Truth.{so}
+use Rattle.record.proofs.Fit.{loop_fit}
+use borrow.Author.Rules.{rules}
+use Rattle.record.proofs.Loop.refuse_put.Goals as goal
+
+pub returns-then-lies_in : goal.returns-then-lies_in
+returns-then-lies_in c =
+    let f = loop_fit c.args.self c.well_formed.0 in
+    rw (c.if-self.false, rw (to_z-of_z f.settings.lo, to_z-of_z f.settings.hi, to_z-of_z c.ranges.x) at (so c.lies_in.ensures c.if-lies_in.true))
+
+pub returns-else-lies_in : goal.returns-else-lies_in
+returns-else-lies_in c =
+    let f = loop_fit c.args.self c.well_formed.0 in
+    rw (c.if-self.false, rw (to_z-of_z f.settings.lo, to_z-of_z f.settings.hi, to_z-of_z c.ranges.x) at (so c.lies_in.ensures c.if-lies_in.false))
