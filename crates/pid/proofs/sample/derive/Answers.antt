@@ -1,0 +1,22 @@
+use Rattle.whole.proofs.Num.{Num, nums, num_via, fits, stays, gives}
+use Rattle.pid.specs.Sample.{derivative}
+use Rattle.pid.proofs.Arithmetic.{calls}
+use Rattle.pid.proofs.sample.derive.Goals as goal
+use Rattle.pid.proofs.sample.derive.Goals.{After-round}
+
+abbrev r_num : (c : After-round) → Num c.round.result
+r_num c = num_via c.round.ensures (search (nums, calls) depth 20)
+
+pub overflow_mul-kd-then-primed : goal.overflow_mul-kd-then-primed
+overflow_mul-kd-then-primed c = fits (search nums depth 12) tt
+
+pub round-requires : goal.round-requires
+round-requires c = stays (search nums depth 12) tt
+
+pub returns-then-primed : goal.returns-then-primed
+unfolding derivative
+returns-then-primed c = let r = r_num (goal.at.returns-then-primed c).After-round in gives (search nums depth 12) tt (rw c.if-primed.true)
+
+pub returns : goal.returns
+unfolding derivative
+returns c = rw c.if-primed.false
