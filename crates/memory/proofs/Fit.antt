@@ -1,8 +1,8 @@
 -- What owning tells: an entry's output fits its type, and a memory has as many places as the request says. Each takes a parameter's
 -- `c.good.i`.
-use mathlib.Core.Path.{◌≡◌, sym, ◌∙◌}
+use mathlib.Core.Path.{◌≡◌}
 use mathlib.Core.List.{[], ◌∷◌}
-use lib.ListN.{length, length-map}
+use lib.ListN.{length}
 use mir.Syntax.{w32}
 use mir.Val.{SFits}
 use denote.Laws.{Is}
@@ -22,4 +22,4 @@ pub memory_long : (m : Memory) → Is M.the_row m (val M.the_type M'.the_laws m 
 unfolding window
 memory_long m is =
     let g = owed M.the_type M'.the_laws m _ is in
-    sym (length-map m.entries _) ∙ g.1.0.1.0.1
+    g.1.0.1.0.1

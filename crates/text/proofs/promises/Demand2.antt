@@ -42,7 +42,7 @@ pub read_then_written : (text buffer : List ℕ) → (read_text text).code ≡ 0
     (written_of (read_text text).settings (length buffer) ≡ record { code = 0; len = length text })
     × (buffer_after (read_text text).settings buffer ≡ text ++ drop (length text) buffer)
 read_then_written text buffer e mean jump more h =
-    let t = forms.form-back heads sets text e (has_both text mean jump) (goes_on heads text more) in
+    let t = forms.form_back heads sets text e (has_both text mean jump) (goes_on heads text more) in
     let w = fits_in (read_text text).settings buffer t.said.right (rw (← t.same) h) in
     (rw (← t.same) at (sym w.says), rw (← t.same) at (sym w.holds))
 
@@ -52,7 +52,7 @@ pub written_then_read : (s : Settings) (buffer : List ℕ) → length s.gains �
 written_then_read s buffer g e =
     let h = wrote s buffer e in
     let w = fits_in s buffer h.right h.fit in
-    rw (← w.says, ← w.holds, take_at (text_of s) (drop (length (text_of s)) buffer) (length (text_of s)) refl) (forms.full-read s g h.right)
+    rw (← w.says, ← w.holds, take_at (text_of s) (drop (length (text_of s)) buffer) (length (text_of s)) refl) (forms.full_read s g h.right)
 
 -- ---- the forms
 
@@ -60,7 +60,7 @@ written_then_read s buffer g e =
 pub without_mean : (text : List ℕ) → (read_text text).code ≡ 0 → begins (bytes "kp0") (after_lines firsts text) ≡ true → (read_text text).settings.mean ≡ pos 1
 without_mean text e begun =
     let h = heads_in text in
-    forms.said-mean h (sets_in h text) (read_text text).settings (forms.text-back text e).said (has_neither text begun)
+    forms.said_mean h (sets_in h text) (read_text text).settings (forms.text_back text e).said (has_neither text begun)
 
 -- "and one without jump means 2,000,000": one whose line after rate, or whose line after mean, begins with `kp0`.
 pub without_jump : (text : List ℕ) → (read_text text).code ≡ 0 →
@@ -68,7 +68,7 @@ pub without_jump : (text : List ℕ) → (read_text text).code ≡ 0 →
     (read_text text).settings.jump ≡ pos farthest
 without_jump text e begun =
     let h = heads_in text in
-    forms.said-jump h (sets_in h text) (read_text text).settings (heads_in_lem text) (forms.text-back text e).said
+    forms.said_jump h (sets_in h text) (read_text text).settings (heads_in_lem text) (forms.text_back text e).said
     (⊎_elim (λ t. omega (arith, kp0_first text firsts neither_line t)) (λ t. omega (arith, kp0_first text (firsts + 1) mean_alone t)) begun)
 
 -- "A text that ends after 26 lines is still read, with sets 4 to 15 equal to set 0", and "with the line request 5's 26 and 27 are
@@ -77,7 +77,7 @@ pub short_sets_lem : (text : List ℕ) → (read_text text).code ≡ 0 → after
     (k : ℕ) → short_sets ≤ k → k < sets → gains_at (read_text text).settings.gains k ≡ gains_at (read_text text).settings.gains 0
 short_sets_lem text e end k l m =
     let h = heads_in text in
-    forms.missing-sets (read_text text).settings short (forms.form-back h short_sets text e refl (forms.ends-here h text end)) k l m
+    forms.missing_sets (read_text text).settings short (forms.form_back h short_sets text e refl (forms.ends_here h text end)) k l m
 
 -- "The writer always gives it", and "Writing always gives 86 lines": what is read from any text that is accepted is written in
 -- full. To the text's own lines are added, after the first h, those of mean and jump that it has not, and after its last one the
@@ -99,12 +99,12 @@ short_then_written text buffer e room =
     let n = sets_in h text in
     let a = heads_in_lem text in
     let b = sets_in_lem h text in
-    let t = forms.text-back text e in
-    let p = ap (after_lines h) t.same ∙ forms.form-after h n s a b t.said in
+    let t = forms.text_back text e in
+    let p = ap (after_lines h) t.same ∙ forms.form_after h n s a b t.said in
     let q : text_of s ≡ forms.first_lines h s ++ (forms.left_out h ++ (after_lines h text ++ forms.other_lines n s)) =
-    rw p (forms.full-apart h n s a b t.said) in
+    rw p (forms.full_apart h n s a b t.said) in
     let w = fits_in s buffer t.said.right (rw q room) in
-    (t.same ∙ forms.form-apart h n s a b t.said ∙ rw p, rw q at (sym w.says), rw q at (sym w.holds))
+    (t.same ∙ forms.form_apart h n s a b t.said ∙ rw p, rw q at (sym w.says), rw q at (sym w.holds))
 
 -- The lines that are added where a text has neither, and the one where it has mean alone.
 pub mean_written : lines_of later_rows absent ≡ bytes "mean=1\njump=2000000\n"
@@ -137,7 +137,7 @@ accepted_exactly text = (forth, λ p. back p.0 p.1 p.2 p.3)
         let s = (read_text text).settings in
         let i = heads_in text in
         let k = sets_in i text in
-        let t = forms.text-back text e in (
+        let t = forms.text_back text e in (
           s,
           t.said.sixteen,
           t.said.right,
@@ -146,9 +146,9 @@ accepted_exactly text = (forth, λ p. back p.0 p.1 p.2 p.3)
             n = k;
             heading = heads_in_lem text;
             gaining = sets_in_lem i text;
-            mean = forms.said-mean i k s t.said;
-            jump = forms.said-jump i k s (heads_in_lem text) t.said;
-            gains = forms.said-gains i k s t.said;
+            mean = forms.said_mean i k s t.said;
+            jump = forms.said_jump i k s (heads_in_lem text) t.said;
+            gains = forms.said_gains i k s t.said;
             same = t.same;
           },
         )
@@ -157,15 +157,15 @@ accepted_exactly text = (forth, λ p. back p.0 p.1 p.2 p.3)
     back s g e f =
         ap (λ (x : List ℕ). (read_text x).code) f.same
         ∙ ap (λ (d : Reading). d.code)
-        (forms.form-read f.h f.n s f.heading f.gaining (forms.said_of f.h f.n s f.heading f.gaining g e f.mean f.jump f.gains))
+        (forms.form_read f.h f.n s f.heading f.gaining (forms.said_of f.h f.n s f.heading f.gaining g e f.mean f.jump f.gains))
 
 -- "86 lines, 1,044 bytes at most", and the lines of mean and jump at most 9 and 13 more: an accepted text has at most 1,066, and
 -- no more than the longest of its form; and in each form one has as many.
 pub at_most_longest : (text : List ℕ) → (read_text text).code ≡ 0 → length text ≤ longest_text
-at_most_longest text e = forms.text-most text e
+at_most_longest text e = forms.text_most text e
 
 pub form_at_most : (text : List ℕ) → (read_text text).code ≡ 0 → length text ≤ longest_for (heads_in text) (sets_in (heads_in text) text)
-form_at_most text e = forms.form-most text e
+form_at_most text e = forms.form_most text e
 
 pub longest_bytes :
     (longest_text ≡ 1066)
@@ -178,11 +178,11 @@ longest_bytes = (refl, refl, refl, refl, refl, refl)
 
 pub one_has_longest : (h n : ℕ) → Headed h → Gained n →
     (length (text_for h n (examples.longest h)) ≡ longest_for h n) × ((read_text (text_for h n (examples.longest h))).code ≡ 0)
-one_has_longest h n a b = (examples.longest-written h n a b, examples.longest-read h n a b)
+one_has_longest h n a b = (examples.longest_written h n a b, examples.longest_read h n a b)
 
 -- Settings C: without mean and jump, its first 26 lines are those of 01, and these are read as C.
 pub c_there_and_back : (text_for firsts short_sets settings_c ≡ examples.text_c) × (read_text examples.text_c ≡ record { code = 0; line = 0; settings = settings_c })
-c_there_and_back = (examples.c-written, examples.c_read)
+c_there_and_back = (examples.c_written, examples.c_read)
 
 -- ---- every answer
 
@@ -204,13 +204,13 @@ pub first_wrong : (h j : ℕ) (vs : List ℤ) (s : List ℕ) → Headed h → j 
     (firsts ≤ j → j < heads → j ≤ h → begins (bytes "kp0") s ≡ eqb h j) → (j ≡ lines_for h short_sets → 0 < length s) →
     let r = get_or (picked h rows) j no_row in
     (line_code r s ≡ 0 → ⊥) → read_text (lines_of (take j (picked h rows)) vs ++ s) ≡ refused (line_code r s) (j + 1)
-first_wrong h j vs s a l e i form more f = forms.first-wrong h j vs s a l e i form more f
+first_wrong h j vs s a l e i form more f = forms.first_wrong h j vs s a l e i form more f
 
 -- "Text that stops early is 14 at the line where it stops": after j right lines, j below 88 and not 28, without jump below 87 and
 -- not 27, or with neither below 86 and not 26, that is line j + 1.
 pub stops_early : (h j : ℕ) (vs : List ℤ) → Headed h → j < lines_for h sets → (j ≡ lines_for h short_sets → ⊥) → length vs ≡ j → all_in (take j (picked h rows)) vs ≡ true →
     read_text (lines_of (take j (picked h rows)) vs) ≡ refused 14 (j + 1)
-stops_early h j vs a l f e i = forms.text-stops h j vs a l f e i
+stops_early h j vs a l f e i = forms.text_stops h j vs a l f e i
 
 -- "Then 17, then 16": after the lines of all gain sets, and after those of four where nothing follows.
 pub after_last : (h : ℕ) (vs : List ℤ) (s : List ℕ) → Headed h → length vs ≡ lines_for h sets → all_in (picked h rows) vs ≡ true →

@@ -8,14 +8,6 @@ use Rattle.settings.proofs.Settings.head_in_table.Goals as goal
 pub returns : goal.returns
 unfolding table
 returns c =
-    
-    
-    
-    
-    
-    
-    
-    
     let f = settings_fit c.args.self c.well_formed.0 in
     meet (c.takes.ensures ∙ held 0 f.action)
     (meet (c.takes-2.ensures ∙ held 1 f.lo)

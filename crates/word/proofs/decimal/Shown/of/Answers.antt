@@ -29,7 +29,6 @@ overflow_sub-from c = let r = room (goal.at.overflow_sub-from c).After-digits_of
 
 pub returns-then-x-lt0 : goal.returns-then-x-lt0
 returns-then-x-lt0 c =
-    
     let x = c.args.x in
     rw (told (goal.at.returns-then-x-lt0 c).After-digits_of-digits)
     (padded_more (shown (nat_abs x)) 45 (room (goal.at.returns-then-x-lt0 c).After-digits_of-digits)
