@@ -29,11 +29,11 @@ use Rattle.delivery.proofs.Served.{by_delivery_lem, kept_one, kept_twice, delive
 
 -- "Every loop the software makes keeps them"
 pub made_valid : (s : Settings) → (made_of s).code ≡ 0 → valid_of (made_of s).state ≡ true
-made_valid s e = and (no_memory_ok _ _) (loops.made-valid s e)
+made_valid s e = and (no_memory_ok _ _) (loops.made_valid s e)
 
 -- "The blank breaks the state rules (lo is not below hi)."
 pub blank_broken : valid_of blank_of ≡ false
-blank_broken = ap₂ (λ (a b : Bool). a && b) (no_memory_ok _ _) loops.blank-broken
+blank_broken = ap₂ (λ (a b : Bool). a && b) (no_memory_ok _ _) loops.blank_broken
 
 -- the record that comes back keeps the state rules
 pub again_valid : (s : Numbered) (n : ℕ) (c : Command) → valid_of s ≡ true → valid_of (delivered_of s n c).state ≡ true
