@@ -1,0 +1,24 @@
+use Prim.Native.Nat.{◌+◌}
+use mathlib.Core.Path.{refl}
+use mathlib.Core.List.{◌++◌}
+use native.Mathlib.Omega.{arith}
+use lib.ListN.{length}
+use mir.Syntax.{w32}
+use mir.Val.{SFits}
+use mir.Facts.{to_z-of_z}
+use Rattle.word.proofs.Puts.{Puts, puts_none, puts_more, puts_all}
+use Rattle.answer.specs.Journal.{answer_text}
+use Rattle.answer.proofs.Verdicts.{judges_answered}
+use borrow.Author.Rules.{rules}
+use Rattle.answer.proofs.journal.reply.Goals as goal
+
+pub returns : goal.returns
+returns c =
+    let d = c.args.told in
+    let f : SFits w32 d.output = search rules in
+    let e = rw (to_z-of_z f) at c.put_answer-len.ensures in
+    let w = c.args.line.now in
+    let t = answer_text d.code d.output d.number in
+    let q : Puts c.args.out-1.now 0 w _ (length w) = puts_more puts_none w c.put.ensures (omega arith) in
+    let g = puts_all (puts_more q t e.1 e.0.0) (w ++ t) refl in
+    judges_answered d.state (w ++ t) g e.0.1
