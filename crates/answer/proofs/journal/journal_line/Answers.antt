@@ -7,12 +7,12 @@ use Rattle.answer.proofs.journal.journal_line.Goals as goal
 pub returns-in-Wrong : goal.returns-in-Wrong
 unfolding journal_line
 returns-in-Wrong c =
-    judges_by (ap (by_delivery c.args.state c.args.line.now) (sym c.parse-asked.ensures ∙ c.in_default.is)) (judges_refused c.refused.ensures)
+    judges_by (ap (by_delivery c.args.state c.args.line.now) (sym c.parse-asked.ensures ∙ c.in-Wrong.is)) (judges_refused c.refused.ensures)
 
 pub returns-in-Is : goal.returns-in-Is
 unfolding journal_line
 returns-in-Is c =
     let w = c.args.line.now in
     judges_by
-    (ap (by_delivery c.args.state w) (sym c.parse-asked.ensures ∙ c.asked-1.given.1) ∙ ap (journal_answer w) (sym c.deliver.ensures))
+    (ap (by_delivery c.args.state w) (sym c.parse-asked.ensures ∙ c.in-Is.is) ∙ ap (journal_answer w) (sym c.deliver.ensures))
     c.reply.ensures

@@ -24,8 +24,8 @@ all_fit : (c : After-put_unsigned) → c.args.at + answer_room < 2 ^ 64
 all_fit c = omega arith
 
 told : (c : After-put_signed) →
-    (c.put_signed.result ≡ length (decimal c.args.output)) × (c.put_signed.new.0 ≡ sets c.put-2.new.0 (c.args.at + 6 + c.put_unsigned.result + 8) (decimal c.args.output))
-told c = rw (to_z-of_z c.ranges.output) at c.put_signed.ensures
+    (c.put_signed.result ≡ length (decimal c.args.output)) × (c.put_signed.new.buffer ≡ sets c.put-2.new.buffer (c.args.at + 6 + c.put_unsigned.result + 8) (decimal c.args.output))
+told c = (rw (to_z-of_z c.ranges.output) at c.put_signed.ensures.value, rw (to_z-of_z c.ranges.output) at c.put_signed.ensures.buffer_after)
 
 few_2 : (c : After-put_signed) → c.put_signed.result ≤ 11
 few_2 c = rw (told c).0 (decimal_room_lem c.args.output c.ranges.output)
@@ -63,11 +63,11 @@ returns-clause-value c =
     let at = c.args.at in
     let a = at + 6 + c.put_unsigned.result in
     let b = a + 8 + c.put_signed.result in
-    let q1 : Puts c.args.out-1.now at code_key _ (at + 6) = puts_more puts_none code_key c.put.ensures refl in
+    let q1 : Puts c.args.out.now at code_key _ (at + 6) = puts_more puts_none code_key c.put.ensures refl in
     let q2 = puts_more q1 (shown c.args.code) c.put_unsigned.ensures.buffer_after (ap (λ (n : ℕ). at + 6 + n) c.put_unsigned.ensures.value) in
-    let q3 : Puts c.args.out-1.now at _ _ (a + 8) = puts_more q2 output_key c.put-2.ensures refl in
+    let q3 : Puts c.args.out.now at _ _ (a + 8) = puts_more q2 output_key c.put-2.ensures refl in
     let q4 = puts_more q3 (decimal c.args.output) (told (goal.at.returns-clause-value c).After-put_signed).1 (ap (λ (n : ℕ). a + 8 + n) (told (goal.at.returns-clause-value c).After-put_signed).0) in
-    let q5 : Puts c.args.out-1.now at _ _ (b + 6) = puts_more q4 last_key c.put-3.ensures refl in
+    let q5 : Puts c.args.out.now at _ _ (b + 6) = puts_more q4 last_key c.put-3.ensures refl in
     let q6 = puts_more q5 (shown c.args.last) c.put_unsigned-2.ensures.buffer_after (ap (λ (n : ℕ). b + 6 + n) c.put_unsigned-2.ensures.value) in
     let q7 = puts_more q6 (feed ∷ []) c.put-4.ensures refl in
     let g = puts_all q7 (answer_text c.args.code c.args.output c.args.last) (simp append_assoc) in
@@ -82,11 +82,11 @@ returns-clause-out_after c =
     let at = c.args.at in
     let a = at + 6 + c.put_unsigned.result in
     let b = a + 8 + c.put_signed.result in
-    let q1 : Puts c.args.out-1.now at code_key _ (at + 6) = puts_more puts_none code_key c.put.ensures refl in
+    let q1 : Puts c.args.out.now at code_key _ (at + 6) = puts_more puts_none code_key c.put.ensures refl in
     let q2 = puts_more q1 (shown c.args.code) c.put_unsigned.ensures.buffer_after (ap (λ (n : ℕ). at + 6 + n) c.put_unsigned.ensures.value) in
-    let q3 : Puts c.args.out-1.now at _ _ (a + 8) = puts_more q2 output_key c.put-2.ensures refl in
+    let q3 : Puts c.args.out.now at _ _ (a + 8) = puts_more q2 output_key c.put-2.ensures refl in
     let q4 = puts_more q3 (decimal c.args.output) (told (goal.at.returns-clause-out_after c).After-put_signed).1 (ap (λ (n : ℕ). a + 8 + n) (told (goal.at.returns-clause-out_after c).After-put_signed).0) in
-    let q5 : Puts c.args.out-1.now at _ _ (b + 6) = puts_more q4 last_key c.put-3.ensures refl in
+    let q5 : Puts c.args.out.now at _ _ (b + 6) = puts_more q4 last_key c.put-3.ensures refl in
     let q6 = puts_more q5 (shown c.args.last) c.put_unsigned-2.ensures.buffer_after (ap (λ (n : ℕ). b + 6 + n) c.put_unsigned-2.ensures.value) in
     let q7 = puts_more q6 (feed ∷ []) c.put-4.ensures refl in
     let g = puts_all q7 (answer_text c.args.code c.args.output c.args.last) (simp append_assoc) in

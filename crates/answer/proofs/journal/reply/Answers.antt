@@ -16,9 +16,10 @@ pub returns : goal.returns
 returns c =
     let d = c.args.told in
     let f : SFits w32 d.output = search rules in
-    let e = rw (to_z-of_z f) at c.put_answer-len.ensures in
+    let e = rw (to_z-of_z f) at c.put_answer-len.ensures.value in
+    let g = rw (to_z-of_z f) at c.put_answer-len.ensures.out_after in
     let w = c.args.line.now in
     let t = answer_text d.code d.output d.number in
-    let q : Puts c.args.out-1.now 0 w _ (length w) = puts_more puts_none w c.put.ensures (omega arith) in
-    let g = puts_all (puts_more q t e.1 e.0.0) (w ++ t) refl in
-    judges_answered d.state (w ++ t) g e.0.1
+    let q : Puts c.args.out.now 0 w _ (length w) = puts_more puts_none w c.put.ensures (omega arith) in
+    let p = puts_all (puts_more q t g e.0) (w ++ t) refl in
+    judges_answered d.state (w ++ t) p e.1

@@ -17,8 +17,8 @@ use Rattle.answer.proofs.oven.answer.Goals.{After-put_signed-end}
 
 -- what was put is the decimal of the output
 told : (c : After-put_signed-end) →
-    (c.put_signed-end.result ≡ length (decimal c.args.output)) × (c.put_signed-end.new.0 ≡ sets c.args.out-1.now 0 (decimal c.args.output))
-told c = rw (to_z-of_z c.ranges.output) at c.put_signed-end.ensures
+    (c.put_signed-end.result ≡ length (decimal c.args.output)) × (c.put_signed-end.new.buffer ≡ sets c.args.out.now 0 (decimal c.args.output))
+told c = (rw (to_z-of_z c.ranges.output) at c.put_signed-end.ensures.value, rw (to_z-of_z c.ranges.output) at c.put_signed-end.ensures.buffer_after)
 
 few : (c : After-put_signed-end) → c.put_signed-end.result ≤ 11
 few c =
@@ -29,7 +29,7 @@ overflow_add-result c = let a = few (goal.at.overflow_add-result c).After-put_si
 
 pub returns : goal.returns
 returns c =
-    let a : Puts c.args.out-1.now 0 (decimal c.args.output) _ c.put_signed-end.result = puts_more puts_none (decimal c.args.output) (told (goal.at.returns c).After-put_signed-end).1 (omega (arith, (told (goal.at.returns c).After-put_signed-end).0)) in
+    let a : Puts c.args.out.now 0 (decimal c.args.output) _ c.put_signed-end.result = puts_more puts_none (decimal c.args.output) (told (goal.at.returns c).After-put_signed-end).1 (omega (arith, (told (goal.at.returns c).After-put_signed-end).0)) in
     let b = puts_all (puts_more a (feed ∷ []) c.put.ensures refl) (output_line c.args.output) refl in
     let x = few (goal.at.returns c).After-put_signed-end in
     judges_answered c.args.state (output_line c.args.output) b (omega arith)

@@ -10,10 +10,10 @@ use Rattle.answer.proofs.oven.sample_line.Goals as goal
 pub returns-in-Wrong : goal.returns-in-Wrong
 unfolding sample_line
 returns-in-Wrong c =
-    judges_by (ap (by_decimal c.args.state) (sym c.of-word.ensures ∙ c.in_default.is)) (judges_refused c.refused.ensures)
+    judges_by (ap (by_decimal c.args.state) (sym c.of-word.ensures ∙ c.in-Wrong.is)) (judges_refused c.refused.ensures)
 
 pub returns-in-Is : goal.returns-in-Is
 unfolding sample_line
 returns-in-Is c =
-    let w : SFits w32 c.word-1.given.0.0 = search rules in
-    judges_by (ap (by_decimal c.args.state) (sym c.of-word.ensures ∙ c.word-1.given.1)) (rw (to_z-of_z w) at c.sample.ensures)
+    let w : SFits w32 c.in-Is.pv = search rules in
+    judges_by (ap (by_decimal c.args.state) (sym c.of-word.ensures ∙ c.in-Is.is)) (rw (to_z-of_z w) at c.sample.ensures)
