@@ -1,7 +1,7 @@
 # x86.sh: builds and runs x86-64 Rust on an x86-64 or an Arm host. Source it; it needs the Rattle kit.
 #   x86_rustc ARGS..        rustc for x86-64 Linux (on Arm: Debian's, unpacked once below $X86_DIR; nothing is installed)
 #   x86_run PROGRAM ARGS..  runs the program, on Arm under the kit's emulator
-RATTLE_HOME=${RATTLE_HOME:-$(dirname "$(dirname "$(rt doc)")")}
+RATTLE_HOME=${RATTLE_HOME:-$(dirname "$(rt doc)")}
 X86_DIR=${X86_DIR:-${XDG_CACHE_HOME:-$HOME/.cache}/x86-rust}
 x86_host=$(uname -m)
 x86_tools=$RATTLE_HOME/on/$x86_host/toolchain

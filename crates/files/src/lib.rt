@@ -2,139 +2,146 @@
 // from `stream`. What cannot be opened, read or written is told on standard error, and nothing more is written.
 #![tactic(auto)]
 
-use libc::{STDERR_FILENO, STDOUT_FILENO};
+ghost use Rattle.std.specs.Io.{ReadsAtMost};
+
+use std::env::Env;
+use std::fs::{File, Files};
+use std::io::{Cursor, Print, Read, Write};
+use std::{io, str};
 use stream::run::Run;
 
-// What a turn leaves: whether there is more to do, whether all went well, and the run.
+// How many bytes are read at a time. A settings file's first so many decide its reading, and no path that can be opened has more.
+const PIECE: usize = 4_096;
+
+// What could not be opened, read or written, and why.
 #[derive(Clone, Copy)]
-struct Left {
-    more: bool,
-    well: bool,
-    run: Run,
+enum Failure {
+    Settings(io::Error),
+    Lines(io::Error),
+    Output(io::Error),
 }
 
-fn failed(run: Run, what: &[u8]) -> Left {
-    os::fail(what);
-    Left {
-        more: false,
-        well: false,
-        run,
+// The system's number for bytes that are no text. Only a path that is UTF-8 can be opened.
+const ILLEGAL_BYTES: i32 = 84;
+
+fn open<R: Files>(rt: &R, path: &[u8]) -> io::Result<R::File> {
+    match str::from_utf8(path) {
+        Ok(text) => File::open(rt, text),
+        Err(_) => Err(io::Error::from_raw_os_error(ILLEGAL_BYTES)),
     }
 }
 
-// Reads one piece and writes what it leads to.
-fn turn(fd: i32, run: Run, path: &[u8], out: &mut [u8]) -> Left {
-    let mut piece = io::buffer();
-    let got = libc::read(fd, &mut piece);
-    if got < 0 {
-        return failed(run, path);
+// Reads until there is no room left, or a read answers no bytes, and says how many there are. A read that fails answers none, and
+// so does the end of the file; the read after it tells them apart.
+fn first_bytes<F: Read>(file: &mut F, text: &mut [u8]) -> io::Result<usize>
+    ensures { ReadsAtMost result text.new }
+{
+    let mut n = 0;
+    while n < text.len() {
+        let got = file.read(&mut text[n..]).unwrap_or(0);
+        if got == 0 {
+            break;
+        }
+        n += got;
     }
-    if got == 0 {
-        return Left {
-            more: false,
-            well: true,
-            run,
-        };
-    }
-    let n = io::count(got, &piece);
-    let ran = run.feed(&piece[..n], out);
+    let mut after = [0u8; 16];
+    file.read(&mut after)?;
+    Ok(n)
+}
+
+// The first bytes of the settings file: 4,096 of them, which decide its reading. 87 lines that pass 14 and 15 have at most 1,054
+// bytes (1,053 where 16 passes too), so of what follows them it matters only that it is there (17).
+fn settings<R: Files>(rt: &R, path: &[u8], text: &mut [u8]) -> io::Result<usize>
+    ensures { ReadsAtMost result text.new }
+{
+    let mut file = open(rt, path)?;
+    first_bytes(&mut file, text)
+}
+
+// Starts the run from the settings file.
+fn start<R: Files + Print>(rt: &R, journal: bool, path: &[u8]) -> Result<Run, Failure> {
+    let mut text = [0u8; PIECE];
+    let n = settings(rt, path, &mut text).map_err(Failure::Settings)?;
+    let mut out = [0u8; Run::ROOM];
+    let ran = stream::start::begin(journal, &text[..n], &mut out);
     let len = ran.len;
-    let next = ran.run;
-    if io::write_all(STDOUT_FILENO, &out[..len]) {
-        return Left {
-            more: ran.done & !next.ended,
-            well: true,
-            run: next,
-        };
-    }
-    failed(next, b"standard output")
+    rt.write_all(&out[..len]).map_err(Failure::Output)?;
+    Ok(ran.run)
 }
 
-// A proved loop has to end, and nothing says that a file does, so it counts its turns down from a number that no file
-// outlives. The output has room for what a piece of 4,096 bytes can lead to, and is made once.
-fn turns(fd: i32, run: Run, path: &[u8]) -> Left {
-    let mut out = [0u8; 4_096 * Run::ROOM];
-    let mut left = u64::MAX;
-    let mut now = Left {
-        more: true,
-        well: true,
-        run,
-    };
-    while left > 0 && now.more {
-        left -= 1;
-        now = turn(fd, now.run, path, &mut out);
+// The pieces of a file, to its end or to the refusal that ends the run. Nothing says that a file ends, and no file outlives so
+// many pieces. The output has room for what a piece can lead to, and is made once.
+fn pieces<P: Print, F: Read>(rt: &P, file: &mut F, run: Run) -> Result<Run, Failure> {
+    let mut piece = [0u8; PIECE];
+    let mut out = [0u8; PIECE * Run::ROOM];
+    let mut now = run;
+    for _ in 0..u64::MAX {
+        let n = file.read(&mut piece).map_err(Failure::Lines)?;
+        if n == 0 {
+            break;
+        }
+        let ran = now.feed(&piece[..n], &mut out);
+        let len = ran.len;
+        rt.write_all(&out[..len]).map_err(Failure::Output)?;
+        now = ran.run;
+        if !ran.done || now.ended {
+            break;
+        }
     }
-    now
+    Ok(now)
 }
 
 // The file of lines, from its first byte to its end.
-fn lines(run: Run, path: &[u8]) {
-    let fd = os::open_read(path);
-    if fd < 0 {
-        os::fail(path);
-        return;
-    }
-    let last = turns(fd, run, path);
-    libc::close(fd);
-    if last.well {
-        let mut out = io::buffer();
-        let ran = last.run.finish(&mut out);
-        let len = ran.len;
-        if !io::write_all(STDOUT_FILENO, &out[..len]) {
-            os::fail(b"standard output");
-        }
-    }
-}
-
-// Starts the run from a settings text.
-fn start(journal: bool, settings: &[u8], path: &[u8]) {
-    let mut out = io::buffer();
-    let ran = stream::start::begin(journal, settings, &mut out);
+fn lines<R: Files + Print>(rt: &R, path: &[u8], run: Run) -> Result<(), Failure> {
+    let mut file = open(rt, path).map_err(Failure::Lines)?;
+    let last = pieces(rt, &mut file, run)?;
+    let mut out = [0u8; Run::ROOM];
+    let ran = last.finish(&mut out);
     let len = ran.len;
-    let run = ran.run;
-    if !io::write_all(STDOUT_FILENO, &out[..len]) {
-        os::fail(b"standard output");
-        return;
-    }
-    if !run.ended {
-        lines(run, path);
-    }
+    rt.write_all(&out[..len]).map_err(Failure::Output)
 }
 
-// The settings file: its first 4,096 bytes, which decide its reading. 87 lines that pass 14 and 15 have at most 1,054 bytes
-// (1,053 where 16 passes too), so of what follows them it matters only that it is there (17). A read that fails answers no
-// bytes, and so does the end of the file; the read after it tells them apart.
-fn settings(journal: bool, path: &[u8], file: &[u8]) {
-    let fd = os::open_read(path);
-    if fd < 0 {
-        os::fail(path);
-        return;
+fn answer<R: Files + Print>(
+    rt: &R,
+    journal: bool,
+    path: &[u8],
+    file: &[u8],
+) -> Result<(), Failure> {
+    let run = start(rt, journal, path)?;
+    if run.ended {
+        return Ok(());
     }
-    let mut text = io::buffer();
-    let n = io::read_full(fd, &mut text);
-    let mut after = [0u8; 16];
-    let got = libc::read(fd, &mut after);
-    if got < 0 {
-        os::fail(path);
-        return;
-    }
-    libc::close(fd);
-    start(journal, &text[..n], file);
+    lines(rt, file, run)
+}
+
+// Writes a line: what failed, a colon, and the system's text for the error, which an error's own text has in front of its number.
+fn tell<E: Print>(err: &E, what: &[u8], why: io::Error) -> io::Result<()> {
+    let mut said = Cursor::new([0u8; 256]);
+    write!(said, "{why}")?;
+    let text = str::from_utf8(said.get_ref()).unwrap_or("");
+    let reason = match text.split_once(" (os error ") {
+        Some((reason, _)) => reason,
+        None => text.trim_end_matches('\0'),
+    };
+    err.write_all(what)?;
+    err.write_all(b": ")?;
+    err.write_all(reason.as_bytes())?;
+    err.write_all(b"\n")
 }
 
 // A whole program: its first argument names the settings file, its second the file of lines.
-pub fn run(journal: bool, usage: &[u8]) {
-    let mut path = io::buffer();
-    let n = os::arg(1, &mut path);
-    if os::errno() != 0 {
-        io::write_all(STDERR_FILENO, usage);
+pub fn run(rt: &HostRuntime, journal: bool, usage: &[u8]) {
+    let err = rt.stderr();
+    let mut path = [0u8; PIECE];
+    let mut file = [0u8; PIECE];
+    let (Ok(n), Ok(m)) = (rt.arg(1, &mut path), rt.arg(2, &mut file)) else {
+        let _ = err.write_all(usage);
         return;
-    }
-    let mut file = io::buffer();
-    let m = os::arg(2, &mut file);
-    if os::errno() != 0 {
-        io::write_all(STDERR_FILENO, usage);
-        return;
-    }
-    settings(journal, &path[..n], &file[..m]);
+    };
+    let _ = match answer(rt, journal, &path[..n], &file[..m]) {
+        Ok(()) => Ok(()),
+        Err(Failure::Settings(why)) => tell(&err, &path[..n], why),
+        Err(Failure::Lines(why)) => tell(&err, &file[..m], why),
+        Err(Failure::Output(why)) => tell(&err, b"standard output", why),
+    };
 }

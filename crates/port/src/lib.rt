@@ -1,4 +1,4 @@
-// The replay, and a delivery after it, for programs in other languages: what the benchmark and the host's tests link.
+// The replay, and a delivery after it, for programs in other languages: what `port_c` exports.
 #![tactic(auto)]
 
 ghost use Rattle.std.specs.Prelude.{◌≡◌, length};
@@ -63,8 +63,7 @@ fn ready(settings: Settings, set: i32, target: i32, before: i32, held: i32) -> N
 }
 
 // The code of a replay from that loop; the place where a sample is refused is written through `place`.
-#[unsafe(no_mangle)]
-pub extern "C" fn port_replay(
+pub fn port_replay(
     values: &[i32],
     set: i32,
     target: i32,
@@ -121,8 +120,7 @@ fn late(
 }
 
 // The code of that sample; its answer's output and number are written through `output` and `told`.
-#[unsafe(no_mangle)]
-pub extern "C" fn port_late(
+pub fn port_late(
     values: &[i32],
     last: u32,
     earlier: &[i32],

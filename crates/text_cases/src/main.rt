@@ -4,8 +4,9 @@
 
 ghost use Rattle.std.specs.Prelude.{◌≤◌, length};
 
-use libc::STDOUT_FILENO;
 use settings::Settings;
+use std::io;
+use std::io::Print;
 use text::reader::{Reading, read_settings};
 use values::value;
 use word::decimal::{Decimal, Shown};
@@ -116,7 +117,7 @@ impl Made {
         let bytes = self.bytes;
         let len = self.len;
         if len <= ROOM {
-            return check::same(&bytes[0..len], text);
+            return &bytes[0..len] == text;
         }
         false
     }
@@ -182,13 +183,9 @@ impl Made {
 
 // ---- the reader
 
-fn say(name: &[u8], code: u8, n: usize) {
-    io::write_all(STDOUT_FILENO, name);
-    io::write_all(STDOUT_FILENO, b" ");
-    io::print_decimal(STDOUT_FILENO, code as u64);
-    io::write_all(STDOUT_FILENO, b" ");
-    io::print_decimal(STDOUT_FILENO, n as u64);
-    io::write_all(STDOUT_FILENO, b"\n");
+fn say(rt: &HostRuntime, name: &[u8], code: u8, n: usize) -> io::Result<()> {
+    rt.write_all(name)?;
+    println!(rt; " {code} {n}")
 }
 
 fn reading_of(made: Made) -> Reading {
@@ -200,9 +197,9 @@ fn reading_of(made: Made) -> Reading {
     read_settings(b"")
 }
 
-fn read_made(name: &[u8], made: Made) {
+fn read_made(rt: &HostRuntime, name: &[u8], made: Made) -> io::Result<()> {
     let r = reading_of(made);
-    say(name, r.code, r.line);
+    say(rt, name, r.code, r.line)
 }
 
 // ---- cases, each a name, a line and bytes, with a bar after each
@@ -230,24 +227,26 @@ fn number(word: &[u8]) -> usize {
 
 // Reads, for each case, the text with the case's bytes in the place of its line; or, where cut, the text up to that line and then
 // the case's bytes.
-fn cases(text: Made, cut: bool, list: &[u8]) {
+fn cases(rt: &HostRuntime, text: Made, cut: bool, list: &[u8]) -> io::Result<()> {
     let mut rest = list;
     while 0 < rest.len() {
         let line = after(rest);
         let bytes = after(line);
         let n = number(field(line));
-        read_made(field(rest), text.case(cut, n, field(bytes)));
+        read_made(rt, field(rest), text.case(cut, n, field(bytes)))?;
         let next = after(bytes);
         if rest.len() <= next.len() {
-            return;
+            break;
         }
         rest = next;
     }
+    Ok(())
 }
 
 // "Text that stops early is 14 at the line where it stops."
-fn early() {
+fn early(rt: &HostRuntime) -> io::Result<()> {
     cases(
+        rt,
         Made::c(NEITHER, true),
         true,
         b"empty|01||\
@@ -260,18 +259,20 @@ fn early() {
           stops-after-a-key|06|rate|\
           stops-after-an-equals-sign|06|rate=|\
           stops-after-a-value|06|rate=50|",
-    );
+    )?;
     cases(
+        rt,
         Made::c(NEITHER, true),
         false,
         b"no-last-line-feed|26|kt3=0|\
           no-last-line-feed-and-too-large|26|kt3=9999999|",
-    );
+    )
 }
 
 // Lines of wrong form: 14.
-fn forms() {
+fn forms(rt: &HostRuntime) -> io::Result<()> {
     cases(
+        rt,
         Made::c(NEITHER, true),
         false,
         b"crlf|01|action=0\r\n|\
@@ -294,12 +295,13 @@ fn forms() {
           byte-176-in-a-value|03|hi=1\xb000\n|\
           byte-232-in-a-key|03|\xe8i=1000\n|\
           byte-order-mark|01|\xef\xbb\xbfaction=0\n|",
-    );
+    )
 }
 
 // Values of wrong form: 14.
-fn values() {
+fn values(rt: &HostRuntime) -> io::Result<()> {
     cases(
+        rt,
         Made::c(NEITHER, true),
         false,
         b"no-value|03|hi=\n|\
@@ -320,12 +322,13 @@ fn values() {
           a-separator|03|hi=1_000\n|\
           byte-before-0|03|hi=1/\n|\
           byte-after-9|03|hi=1:\n|",
-    );
+    )
 }
 
 // Values outside their ranges: 15; and at the ends of their ranges: 0.
-fn ranges() {
+fn ranges(rt: &HostRuntime) -> io::Result<()> {
     cases(
+        rt,
         Made::c(NEITHER, true),
         false,
         b"seven-digits-too-large|03|hi=9999999\n|\
@@ -351,19 +354,21 @@ fn ranges() {
           alpha2-65537|20|alpha2=65537\n|\
           kt3-65536|26|kt3=65536\n|\
           kt3-65537|26|kt3=65537\n|",
-    );
+    )
 }
 
 // The order of the tests: lines in order, 14 before 15 in each, then 17, then 16.
-fn orders() {
+fn orders(rt: &HostRuntime) -> io::Result<()> {
     cases(
+        rt,
         Made::c(NEITHER, true),
         true,
         b"15-on-line-2-14-on-line-3|02|lo=9999999\nhi=\n|\
           14-on-line-2-15-on-line-3|02|lo=\nhi=9999999\n|\
           keys-in-another-order|02|hi=1000\nlo=0\nout=100\n|",
-    );
+    )?;
     cases(
+        rt,
         Made::c(NEITHER, true),
         false,
         b"too-large-and-a-space|03|hi=9999999 \n|\
@@ -383,16 +388,18 @@ fn orders() {
           line-27-too-large|27|kp4=4194305\n|\
           a-good-line-27|27|kp4=0\n|\
           line-26-twice|27|kt3=0\n|",
-    );
+    )?;
     read_made(
+        rt,
         b"lo-is-hi-and-a-byte",
         Made::c(NEITHER, true).case(false, 3, b"hi=0\n").with(b"x"),
-    );
+    )
 }
 
 // "86 lines": each line after 26 is tested as those before it are.
-fn long_forms() {
+fn long_forms(rt: &HostRuntime) -> io::Result<()> {
     cases(
+        rt,
         Made::c(NEITHER, false),
         true,
         b"86-lines|87||\
@@ -402,8 +409,9 @@ fn long_forms() {
           stops-after-line-85|86||\
           stops-in-line-57|57|kp10=6|\
           stops-in-line-86|86|kt15=0|",
-    );
+    )?;
     cases(
+        rt,
         Made::c(NEITHER, false),
         false,
         b"line-27-left-out|27||\
@@ -419,12 +427,13 @@ fn long_forms() {
           a-byte-after-the-last-line|86|kt15=0\nx|\
           a-line-feed-after-the-last-line|86|kt15=0\n\n|\
           a-line-after-the-last-line|86|kt15=0\nkp16=0\n|",
-    );
+    )
 }
 
 // The line mean, which "follows rate".
-fn means() {
+fn means(rt: &HostRuntime) -> io::Result<()> {
     cases(
+        rt,
         Made::c(MEAN, true),
         false,
         b"mean-1|07|mean=1\n|\
@@ -440,8 +449,9 @@ fn means() {
           kp1-on-line-7|07|kp1=1\n|\
           mean-left-out|07||\
           key-of-set-1-after-mean|08|kp1=65536\n|",
-    );
+    )?;
     cases(
+        rt,
         Made::c(NEITHER, true),
         false,
         b"kp00-on-line-7|07|kp00=1\n|\
@@ -449,12 +459,13 @@ fn means() {
           mean-before-rate|06|mean=1\nrate=50\n|\
           mean-after-kp0|07|kp0=65536\nmean=1\n|\
           mean-after-line-26|27|mean=1\n|",
-    );
+    )
 }
 
 // "with the line request 5's 26 and 27 are one more"
-fn mean_forms() {
+fn mean_forms(rt: &HostRuntime) -> io::Result<()> {
     cases(
+        rt,
         Made::c(MEAN, false),
         true,
         b"87-lines|88||\
@@ -465,8 +476,9 @@ fn mean_forms() {
           stops-after-line-27-with-mean|28||\
           stops-after-line-28-with-mean|29||\
           stops-after-line-86-with-mean|87||",
-    );
+    )?;
     cases(
+        rt,
         Made::c(MEAN, true),
         false,
         b"a-byte-after-line-27|28|x|\
@@ -474,22 +486,25 @@ fn mean_forms() {
           a-good-line-28|28|kp4=0\n|\
           mean-again-after-line-27|28|mean=1\n|\
           lo-is-hi-in-27-lines|03|hi=0\n|",
-    );
+    )?;
     read_made(
+        rt,
         b"lo-is-hi-in-27-lines-and-a-byte",
         Made::c(MEAN, true).case(false, 3, b"hi=0\n").with(b"x"),
-    );
+    )?;
     cases(
+        rt,
         Made::c(MEAN, false),
         false,
         b"kt15-65537-with-mean|87|kt15=65537\n|\
           a-byte-after-line-87|87|kt15=0\nx|",
-    );
+    )
 }
 
 // The line jump, "a settings line after mean".
-fn jumps() {
+fn jumps(rt: &HostRuntime) -> io::Result<()> {
     cases(
+        rt,
         Made::c(BOTH, true),
         false,
         b"jump-1|08|jump=1\n|\
@@ -507,19 +522,21 @@ fn jumps() {
           jump-left-out|08||\
           jump-alone|07||\
           key-of-set-1-after-jump|09|kp1=65536\n|",
-    );
+    )?;
     cases(
+        rt,
         Made::c(MEAN, true),
         false,
         b"jump-before-mean|07|jump=5\nmean=1\n|\
           kp00-on-line-8|08|kp00=1\n|\
           jump-after-kp0|08|kp0=65536\njump=5\n|",
-    );
+    )
 }
 
 // With mean and jump request 5's 26 and 27 are two more.
-fn jump_forms() {
+fn jump_forms(rt: &HostRuntime) -> io::Result<()> {
     cases(
+        rt,
         Made::c(BOTH, false),
         true,
         b"88-lines|89||\
@@ -529,8 +546,9 @@ fn jump_forms() {
           stops-after-line-28-with-jump|29||\
           stops-after-line-29-with-jump|30||\
           stops-after-line-87-with-jump|88||",
-    );
+    )?;
     cases(
+        rt,
         Made::c(BOTH, true),
         false,
         b"a-byte-after-line-28|29|x|\
@@ -538,32 +556,47 @@ fn jump_forms() {
           a-good-line-29|29|kp4=0\n|\
           jump-again-after-line-28|29|jump=5\n|\
           lo-is-hi-in-28-lines|03|hi=0\n|",
-    );
+    )?;
     cases(
+        rt,
         Made::c(BOTH, false),
         false,
         b"kt15-65537-with-jump|88|kt15=65537\n|\
           a-byte-after-line-88|88|kt15=0\nx|",
-    );
+    )
 }
 
 // The longest text of a form is accepted; a byte more has lo = hi; and yet a byte more comes before that.
-fn edges(kp0: usize, short: bool, most: &[u8], level: &[u8], more: &[u8]) {
-    read_made(most, Made::longest(kp0, short));
-    read_made(level, Made::level(kp0, short));
-    read_made(more, Made::level(kp0, short).with(b"x"));
+fn edges(
+    rt: &HostRuntime,
+    kp0: usize,
+    short: bool,
+    most: &[u8],
+    level: &[u8],
+    more: &[u8],
+) -> io::Result<()> {
+    read_made(rt, most, Made::longest(kp0, short))?;
+    read_made(rt, level, Made::level(kp0, short))?;
+    read_made(rt, more, Made::level(kp0, short).with(b"x"))
 }
 
-fn lengths() {
+fn lengths(rt: &HostRuntime) -> io::Result<()> {
     let many = [b'a'; 4096];
     let r = read_settings(&many);
-    say(b"4096-bytes-and-no-line-feed", r.code, r.line);
-    edges(BOTH, false, b"1066-bytes", b"1067-bytes", b"1068-bytes");
-    edges(MEAN, false, b"1053-bytes", b"1054-bytes", b"1055-bytes");
-    edges(NEITHER, false, b"1044-bytes", b"1045-bytes", b"1046-bytes");
-    edges(BOTH, true, b"328-bytes", b"329-bytes", b"330-bytes");
-    edges(MEAN, true, b"315-bytes", b"316-bytes", b"317-bytes");
-    edges(NEITHER, true, b"306-bytes", b"307-bytes", b"308-bytes");
+    say(rt, b"4096-bytes-and-no-line-feed", r.code, r.line)?;
+    edges(rt, BOTH, false, b"1066-bytes", b"1067-bytes", b"1068-bytes")?;
+    edges(rt, MEAN, false, b"1053-bytes", b"1054-bytes", b"1055-bytes")?;
+    edges(
+        rt,
+        NEITHER,
+        false,
+        b"1044-bytes",
+        b"1045-bytes",
+        b"1046-bytes",
+    )?;
+    edges(rt, BOTH, true, b"328-bytes", b"329-bytes", b"330-bytes")?;
+    edges(rt, MEAN, true, b"315-bytes", b"316-bytes", b"317-bytes")?;
+    edges(rt, NEITHER, true, b"306-bytes", b"307-bytes", b"308-bytes")
 }
 
 // ---- the writer
@@ -582,13 +615,14 @@ fn kept(buffer: &[u8; ROOM]) -> usize {
 
 // Writes into the first bytes of ROOM that are all x, and says how many at the end stayed so. The line feed that ends a text
 // is no x, so this counts the bytes after it.
-fn write(name: &[u8], s: Settings, room: usize) {
+fn write(rt: &HostRuntime, name: &[u8], s: Settings, room: usize) -> io::Result<()> {
     let mut buffer = [b'x'; ROOM];
     if room <= ROOM {
         let w = writer::write_settings(s, &mut buffer[0..room]);
-        say(name, w.code, w.len);
-        say(b"  bytes-kept", w.code, kept(&buffer));
+        say(rt, name, w.code, w.len)?;
+        say(rt, b"  bytes-kept", w.code, kept(&buffer))?;
     }
+    Ok(())
 }
 
 fn settings_of(made: Made) -> Settings {
@@ -596,21 +630,21 @@ fn settings_of(made: Made) -> Settings {
 }
 
 // 18 for a buffer shorter than the text; else the length, and every byte after the text stays. Mean and jump are always written.
-fn rooms() {
+fn rooms(rt: &HostRuntime) -> io::Result<()> {
     let s = settings_of(Made::c(NEITHER, true));
     let l = settings_of(Made::longest(BOTH, false));
-    write(b"c-in-1100-bytes", s, ROOM);
-    write(b"c-in-820-bytes", s, 820);
-    write(b"c-in-819-bytes", s, 819);
-    write(b"c-in-230-bytes", s, 230);
-    write(b"c-in-0-bytes", s, 0);
-    write(b"longest-in-1100-bytes", l, ROOM);
-    write(b"longest-in-1066-bytes", l, 1066);
-    write(b"longest-in-1065-bytes", l, 1065);
+    write(rt, b"c-in-1100-bytes", s, ROOM)?;
+    write(rt, b"c-in-820-bytes", s, 820)?;
+    write(rt, b"c-in-819-bytes", s, 819)?;
+    write(rt, b"c-in-230-bytes", s, 230)?;
+    write(rt, b"c-in-0-bytes", s, 0)?;
+    write(rt, b"longest-in-1100-bytes", l, ROOM)?;
+    write(rt, b"longest-in-1066-bytes", l, 1066)?;
+    write(rt, b"longest-in-1065-bytes", l, 1065)
 }
 
 // 11, then 16, then 18.
-fn wrongs() {
+fn wrongs(rt: &HostRuntime) -> io::Result<()> {
     let s = settings_of(Made::c(BOTH, false));
     let mut high = s;
     high.hi = 1000001;
@@ -630,38 +664,37 @@ fn wrongs() {
     near.jump = 0;
     let mut far = s;
     far.jump = 2000001;
-    write(b"write-hi-1000001", high, ROOM);
-    write(b"write-lo-least-of-32-bits", low, ROOM);
-    write(b"write-lo-is-hi", equal, ROOM);
-    write(b"write-out-above-hi", out, ROOM);
-    write(b"write-rate-0-and-lo-is-hi", slow, ROOM);
-    write(b"write-rate-0-and-0-bytes", slow, 0);
-    write(b"write-lo-is-hi-and-0-bytes", equal, 0);
-    write(b"write-mean-0-and-lo-is-hi", none, ROOM);
-    write(b"write-mean-129", wide, ROOM);
-    write(b"write-jump-0-and-lo-is-hi", near, ROOM);
-    write(b"write-jump-2000001", far, ROOM);
-    write(b"write-blank", Settings::blank(), ROOM);
+    write(rt, b"write-hi-1000001", high, ROOM)?;
+    write(rt, b"write-lo-least-of-32-bits", low, ROOM)?;
+    write(rt, b"write-lo-is-hi", equal, ROOM)?;
+    write(rt, b"write-out-above-hi", out, ROOM)?;
+    write(rt, b"write-rate-0-and-lo-is-hi", slow, ROOM)?;
+    write(rt, b"write-rate-0-and-0-bytes", slow, 0)?;
+    write(rt, b"write-lo-is-hi-and-0-bytes", equal, 0)?;
+    write(rt, b"write-mean-0-and-lo-is-hi", none, ROOM)?;
+    write(rt, b"write-mean-129", wide, ROOM)?;
+    write(rt, b"write-jump-0-and-lo-is-hi", near, ROOM)?;
+    write(rt, b"write-jump-2000001", far, ROOM)?;
+    write(rt, b"write-blank", Settings::blank(), ROOM)
 }
 
 // ---- there and back
 
 // Writes the settings of a text: the code and length, or 99 where the bytes are others than those of another text.
-fn again(name: &[u8], made: Made, all: Made) {
+fn again(rt: &HostRuntime, name: &[u8], made: Made, all: Made) -> io::Result<()> {
     let mut buffer = [b'x'; ROOM];
     let w = writer::write_settings(settings_of(made), &mut buffer);
     let n = w.len;
     if n <= ROOM {
         if all.is(&buffer[0..n]) {
-            say(name, w.code, n);
-            return;
+            return say(rt, name, w.code, n);
         }
     }
-    say(name, 99, n);
+    say(rt, name, 99, n)
 }
 
 // How many of the values beside a code are not zero.
-fn beside(name: &[u8], made: Made) {
+fn beside(rt: &HostRuntime, name: &[u8], made: Made) -> io::Result<()> {
     let r = reading_of(made);
     let settings = r.settings;
     let mut n: usize = 0;
@@ -672,112 +705,119 @@ fn beside(name: &[u8], made: Made) {
         }
         i += 1;
     }
-    say(name, r.code, n);
+    say(rt, name, r.code, n)
 }
 
 // Every form is written in full.
-fn trips() {
+fn trips(rt: &HostRuntime) -> io::Result<()> {
     let c = Made::c(BOTH, false);
-    again(b"c-again", c, c);
-    again(b"short-c-again", Made::c(BOTH, true), c);
-    again(b"c-with-mean-alone-again", Made::c(MEAN, false), c);
-    again(b"short-c-with-mean-alone-again", Made::c(MEAN, true), c);
-    again(b"c-with-neither-again", Made::c(NEITHER, false), c);
-    again(b"short-c-with-neither-again", Made::c(NEITHER, true), c);
+    again(rt, b"c-again", c, c)?;
+    again(rt, b"short-c-again", Made::c(BOTH, true), c)?;
+    again(rt, b"c-with-mean-alone-again", Made::c(MEAN, false), c)?;
+    again(rt, b"short-c-with-mean-alone-again", Made::c(MEAN, true), c)?;
+    again(rt, b"c-with-neither-again", Made::c(NEITHER, false), c)?;
+    again(rt, b"short-c-with-neither-again", Made::c(NEITHER, true), c)
 }
 
-fn longest_trips() {
+fn longest_trips(rt: &HostRuntime) -> io::Result<()> {
     let longest = Made::longest(BOTH, false);
     let one = longest.case(false, 7, b"mean=1\n");
     let five = longest.case(false, 8, b"jump=5\n");
-    again(b"longest-again", longest, longest);
+    again(rt, b"longest-again", longest, longest)?;
     again(
+        rt,
         b"short-longest-with-neither-again",
         Made::longest(NEITHER, true),
         one,
-    );
-    again(b"jump-5-again", five, five);
+    )?;
+    again(rt, b"jump-5-again", five, five)
 }
 
 // "What stands beside the code is the blank."
-fn blanks() {
-    beside(b"values-of-c", Made::c(NEITHER, true));
-    beside(b"values-of-longest", Made::longest(BOTH, false));
-    beside(b"values-beside-16", Made::level(BOTH, false));
-    beside(b"values-beside-17", Made::level(BOTH, false).with(b"x"));
-    beside(b"values-beside-16-in-26-lines", Made::level(NEITHER, true));
-    beside(b"values-beside-14", Made::level(NEITHER, true).with(b"x"));
+fn blanks(rt: &HostRuntime) -> io::Result<()> {
+    beside(rt, b"values-of-c", Made::c(NEITHER, true))?;
+    beside(rt, b"values-of-longest", Made::longest(BOTH, false))?;
+    beside(rt, b"values-beside-16", Made::level(BOTH, false))?;
+    beside(rt, b"values-beside-17", Made::level(BOTH, false).with(b"x"))?;
+    beside(
+        rt,
+        b"values-beside-16-in-26-lines",
+        Made::level(NEITHER, true),
+    )?;
+    beside(
+        rt,
+        b"values-beside-14",
+        Made::level(NEITHER, true).with(b"x"),
+    )
 }
 
 // ---- one decimal
 
 // What a word is called, and the number that it is read as, or wrong.
-fn tell(name: &[u8], d: Decimal) {
-    io::write_all(STDOUT_FILENO, name);
+fn tell(rt: &HostRuntime, name: &[u8], d: Decimal) -> io::Result<()> {
+    rt.write_all(name)?;
     match d {
-        Decimal::Wrong => {
-            io::write_all(STDOUT_FILENO, b" is wrong\n");
-        }
+        Decimal::Wrong => println!(rt; " is wrong"),
         Decimal::Is(x) => {
-            io::write_all(STDOUT_FILENO, b" is ");
-            show(x);
+            print!(rt; " is ")?;
+            show(rt, x)
         }
     }
 }
 
-fn decimal(word: &[u8]) {
-    tell(word, Decimal::of(word));
+fn decimal(rt: &HostRuntime, word: &[u8]) -> io::Result<()> {
+    tell(rt, word, Decimal::of(word))
 }
 
-fn show(x: i32) {
+fn show(rt: &HostRuntime, x: i32) -> io::Result<()> {
     let s = Shown::of(x);
     let bytes = s.bytes;
     let from = s.from;
     if from <= Shown::ROOM {
-        io::write_all(STDOUT_FILENO, &bytes[from..]);
+        rt.write_all(&bytes[from..])?;
     }
-    io::write_all(STDOUT_FILENO, b"\n");
+    println!(rt; "")
 }
 
-fn decimals() {
-    decimal(b"");
-    decimal(b"0");
-    decimal(b"-7");
-    decimal(b"9999999");
-    decimal(b"-9999999");
-    decimal(b"10000000");
-    decimal(b"-0");
-    decimal(b"01");
-    show(-1);
-    show(10);
-    show(2147483647);
-    show(-2147483648);
+fn decimals(rt: &HostRuntime) -> io::Result<()> {
+    decimal(rt, b"")?;
+    decimal(rt, b"0")?;
+    decimal(rt, b"-7")?;
+    decimal(rt, b"9999999")?;
+    decimal(rt, b"-9999999")?;
+    decimal(rt, b"10000000")?;
+    decimal(rt, b"-0")?;
+    decimal(rt, b"01")?;
+    show(rt, -1)?;
+    show(rt, 10)?;
+    show(rt, 2147483647)?;
+    show(rt, -2147483648)
 }
 
 // A word of any length is answered.
-fn long_words() {
+fn long_words(rt: &HostRuntime) -> io::Result<()> {
     let nines = [b'9'; 100_000];
-    tell(b"100000-nines", Decimal::of(&nines));
-    tell(b"100000-nines-in-a-journal", number::signed(&nines));
+    tell(rt, b"100000-nines", Decimal::of(&nines))?;
+    tell(rt, b"100000-nines-in-a-journal", number::signed(&nines))
 }
 
-fn main() {
-    early();
-    forms();
-    values();
-    ranges();
-    orders();
-    long_forms();
-    means();
-    mean_forms();
-    jumps();
-    jump_forms();
-    lengths();
-    rooms();
-    wrongs();
-    trips();
-    longest_trips();
-    blanks();
-    decimals();
-    long_words();
+fn main(rt: HostRuntime) -> io::Result<()> {
+    early(&rt)?;
+    forms(&rt)?;
+    values(&rt)?;
+    ranges(&rt)?;
+    orders(&rt)?;
+    long_forms(&rt)?;
+    means(&rt)?;
+    mean_forms(&rt)?;
+    jumps(&rt)?;
+    jump_forms(&rt)?;
+    lengths(&rt)?;
+    rooms(&rt)?;
+    wrongs(&rt)?;
+    trips(&rt)?;
+    longest_trips(&rt)?;
+    blanks(&rt)?;
+    decimals(&rt)?;
+    long_words(&rt)
 }
