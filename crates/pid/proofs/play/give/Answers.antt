@@ -54,4 +54,4 @@ returns-clause-value c =
 pub returns-clause-out_after : goal.returns-clause-out_after
 returns-clause-out_after c =
     (rw (c.fixed.ensures, c.moving.ensures) at c.run-m.ensures.out_after)
-          ∙ ap (λ (us : List ℤ). front_filled us c.args.out.now) (ap (moved_outputs (fixed_of c.args.l) (moving_of c.args.l)) c.requires.3 ∙ sym (outputs_moved c.args.l c.args.l.window c.args.l.raw (moving_of c.args.l) c.args.samples.now))
+    ∙ ap (λ (us : List ℤ). front_filled us c.args.out.now) (ap (moved_outputs (fixed_of c.args.l) (moving_of c.args.l)) c.requires.3 ∙ sym (outputs_moved c.args.l c.args.l.window c.args.l.raw (moving_of c.args.l) c.args.samples.now))

@@ -100,6 +100,6 @@ returns-clause-out_after c =
     let h = c.if-code-ne0.false in
     let p = plays_done c.args.l c.args.samples.now c.args.out.now (code_bad c.args.l c.args.samples.now (length c.args.out.now) (kept_rules (goal.at.returns-clause-out_after c).After-means-bad) (room (goal.at.returns-clause-out_after c).After-means-bad) ∙ none (goal.at.returns-clause-out_after c).After-means-bad h) in
     c.give.ensures.out_after
-          ∙ ap (front_filled (outputs_of c.args.l c.args.samples.now)) (filled (goal.at.returns-clause-out_after c).After-means-bad h)
-          ∙ front_twice (outputs_of c.args.l c.args.samples.now) (reads_of c.args.l c.args.samples.now) c.args.out.now (outputs_length c.args.l c.args.samples.now ∙ sym (reads_length c.args.l c.args.samples.now))
-          ∙ p.1
+    ∙ ap (front_filled (outputs_of c.args.l c.args.samples.now)) (filled (goal.at.returns-clause-out_after c).After-means-bad h)
+    ∙ front_twice (outputs_of c.args.l c.args.samples.now) (reads_of c.args.l c.args.samples.now) c.args.out.now (outputs_length c.args.l c.args.samples.now ∙ sym (reads_length c.args.l c.args.samples.now))
+    ∙ p.1

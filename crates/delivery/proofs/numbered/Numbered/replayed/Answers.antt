@@ -28,11 +28,11 @@ returns-clause-value c =
     let d = played_done c.args.self.state c.args.samples.now c.args.out.now z in
     let wrote = c.play-played.ensures.out_after ∙ d.list in
     ap (λ (x : Numbered). record { code = 0; place = 0; count = length c.args.samples.now; state = x })
-          (ap₂ (λ (l : Loop) (m : Memory). record { state = l; memory = m })
-          (ap (λ (r : Played). r.state) e ∙ d.state)
-          (c.fill-memory.ensures ∙ filled_front c.args.self.memory (c.args.self.memory.number + length c.args.samples.now) c.args.self.state c.args.samples.now c.args.out.now _ wrote)
-          ∙ sym (record_is c.args.self c.args.samples.now b.0 b.1))
-          ∙ b.2.0
+    (ap₂ (λ (l : Loop) (m : Memory). record { state = l; memory = m })
+    (ap (λ (r : Played). r.state) e ∙ d.state)
+    (c.fill-memory.ensures ∙ filled_front c.args.self.memory (c.args.self.memory.number + length c.args.samples.now) c.args.self.state c.args.samples.now c.args.out.now _ wrote)
+    ∙ sym (record_is c.args.self c.args.samples.now b.0 b.1))
+    ∙ b.2.0
 
 pub returns-clause-out_after : goal.returns-clause-out_after
 returns-clause-out_after c =
