@@ -1,6 +1,6 @@
 -- How far two temperatures lie from each other.
-use Prim.Native.Nat.{ℕ, zero, suc, min}
-use mathlib.Core.Path.{◌≡◌, refl, sym}
+use Prim.Native.Nat.{min}
+use mathlib.Core.Path.{◌≡◌, sym}
 use mathlib.Core.Bool.{true, false, ◌||◌}
 use native.Mathlib.Omega.{arith}
 use lib.IntN.{ℤ, pos, negsuc, neg_ℤ, ◌-ℤ◌}

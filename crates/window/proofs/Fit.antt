@@ -2,10 +2,10 @@
 -- parameter's `c.well_formed.0`, or what a call's result `.ok` says.
 use Prim.Native.Nat.{zero, suc}
 use mathlib.Core.Path.{◌≡◌}
-use mathlib.Core.List.{List, [], ◌∷◌, map}
+use mathlib.Core.List.{List, [], ◌∷◌}
 use lib.Dec.{lit<}
 use lib.IntN.{ℤ}
-use lib.ListN.{length, length-map}
+use lib.ListN.{length}
 use mir.Val.{Val}
 use denote.Array.{each}
 use denote.Shadow.{shadow}

@@ -1,5 +1,5 @@
 -- 02, request 7: samples taken one after the other.
-use Rattle.std.specs.Prelude.{ℕ, zero, suc, cond, List, [], ◌∷◌, ◌++◌, eqb, ltb, ℤ, pos, length, drop, get_or}
+use Rattle.std.specs.Prelude.{ℕ, zero, suc, cond, List, ◌∷◌, ◌++◌, eqb, ltb, ℤ, pos, length, drop, get_or}
 use Rattle.command.specs.Sequence.{after, each}
 use Rattle.temperature.specs.declared.Guard.{Guard}
 use Rattle.temperature.specs.Temperature.{first_code}

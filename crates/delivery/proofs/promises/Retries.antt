@@ -1,6 +1,6 @@
 -- 02, request 6. "The new queue may redeliver up to 32 commands late." Demand 3 as it is amended is `demand_3` of Demand3.antt; here
 -- is what it is for, and the request's own sentences, from any record that keeps the state rules.
-use Prim.Native.Nat.{ℕ, zero, suc, ◌+◌, ◌-◌, ◌≤◌, ◌<◌}
+use Prim.Native.Nat.{ℕ, zero, suc, ◌+◌, ◌≤◌, ◌<◌}
 use mathlib.Core.Path.{◌≡◌, refl, sym, ap, subst, ◌∙◌}
 use mathlib.Core.Bool.{true}
 use mathlib.Core.List.{List, [], ◌∷◌, ◌++◌, map}

@@ -6,7 +6,7 @@ use lib.Signed.{lt_z}
 use mir.Syntax.{w32, w64}
 use mir.Val.{to_z, of_z}
 use mir.Facts.{and_yes}
-use Rattle.whole.proofs.Num.{nums, fits, Flag}
+use Rattle.whole.proofs.Num.{nums, Flag}
 use Rattle.temperature.proofs.Apart.{either_way}
 use Rattle.temperature.proofs.further.Goals as goal
 use Rattle.temperature.proofs.further.Goals.{Start}

@@ -1,7 +1,7 @@
-use Prim.Native.Nat.{ℕ, ◌+◌, ◌/◌, ◌<◌, ◌≤◌}
-use mathlib.Core.Path.{◌≡◌, refl, sym, ap, ap₂, ◌∙◌}
+use Prim.Native.Nat.{ℕ, ◌+◌, ◌/◌, ◌<◌}
+use mathlib.Core.Path.{◌≡◌, refl, ap, ◌∙◌}
 use native.Mathlib.Omega.{arith}
-use lib.IntN.{ℤ, pos, negsuc, neg_ℤ, ◌-ℤ◌, ◌*ℤ◌}
+use lib.IntN.{ℤ, pos, neg_ℤ, ◌-ℤ◌}
 use lib.Signed.{◌≤ℤ◌, ◌<ℤ◌}
 use mir.Syntax.{w32, w64}
 use mir.Val.{SFits, to_z, of_z}
@@ -9,8 +9,7 @@ use mir.Facts.{to_z-of_z, to_z_pos}
 use Rattle.whole.specs.Numbers.{size, Within}
 use Rattle.whole.specs.Rounding.{half_up, nearest}
 use Rattle.whole.proofs.Parts.{zs}
-use Rattle.whole.proofs.Lin.{Lin, at, lins}
-use Rattle.whole.proofs.Num.{nums, num_in, num_minus, num_back, fits, stays, gives, test}
+use Rattle.whole.proofs.Num.{nums, num_in, num_minus, num_back, fits, gives, test}
 use Rattle.window.specs.Bounds.{MeanOk}
 use Rattle.window.proofs.Sums.{nearest_up, nearest_down, mean_bits, mean_small, between_bits, sum_within}
 use Rattle.window.proofs.mean_of.Goals as goal

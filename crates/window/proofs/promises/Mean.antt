@@ -1,6 +1,6 @@
 -- 02, request 7, of the window alone. By their contracts `taken` answers `taken w pv`, `mean` the mean of `latest m w`, `means`
 -- the means after each of a list of samples, and `after` the window after all of them.
-use Prim.Native.Nat.{ℕ, ◌+◌, ◌≤◌, min}
+use Prim.Native.Nat.{ℕ, ◌≤◌, min}
 use mathlib.Core.Path.{◌≡◌, refl}
 use mathlib.Core.Bool.{true, false}
 use mathlib.Core.List.{List, [], ◌∷◌, ◌++◌}

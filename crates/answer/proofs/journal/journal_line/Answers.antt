@@ -1,7 +1,6 @@
 use mathlib.Core.Path.{sym, ap, ◌∙◌}
 use Rattle.answer.specs.Journal.{journal_answer, by_delivery, journal_line}
 use Rattle.answer.proofs.Verdicts.{judges_by, judges_refused}
-use borrow.Author.Rules.{rules}
 use Rattle.answer.proofs.journal.journal_line.Goals as goal
 
 pub returns-in-Wrong : goal.returns-in-Wrong

@@ -11,7 +11,6 @@ use Rattle.answer.specs.Verdict.{answer_room}
 use Rattle.answer.specs.Journal.{code_key, output_key, last_key, answer_text}
 use Rattle.word.proofs.Puts.{Puts, puts_none, puts_more, puts_all, code_room}
 use native.Mathlib.Omega.{arith}
-use borrow.Author.Rules.{rules}
 use Rattle.answer.proofs.journal.put_answer.Goals as goal
 use Rattle.answer.proofs.journal.put_answer.Goals.{After-put_signed, After-put_unsigned, After-put_unsigned-2}
 

@@ -11,7 +11,6 @@ use Rattle.word.proofs.Shows.{decimal_room_lem}
 use Rattle.word.proofs.Puts.{Puts, puts_none, puts_more, puts_all}
 use Rattle.answer.specs.Oven.{output_line}
 use Rattle.answer.proofs.Verdicts.{judges_answered}
-use borrow.Author.Rules.{rules}
 use Rattle.answer.proofs.oven.answer.Goals as goal
 use Rattle.answer.proofs.oven.answer.Goals.{After-put_signed-end}
 

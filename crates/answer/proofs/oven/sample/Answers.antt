@@ -4,7 +4,6 @@ use mir.Facts.{to_z-of_z}
 use Rattle.whole.proofs.Truth.{cond_yes, cond_no}
 use Rattle.answer.specs.Oven.{sampled_of, by_answer, by_sample}
 use Rattle.answer.proofs.Verdicts.{judges_by, judges_refused}
-use borrow.Author.Rules.{rules}
 use Rattle.answer.proofs.oven.sample.Goals as goal
 
 pub returns-then-last : goal.returns-then-last

@@ -2,14 +2,13 @@ use mathlib.Core.Path.{refl, ◌∙◌}
 use borrow.Author.Tests.{ltb-true}
 use mir.Syntax.{w64}
 use mir.Facts.{to_z-of_z}
-use Rattle.whole.proofs.Num.{Num, nums, num_i32, num_via, fits, gives}
+use Rattle.whole.proofs.Num.{Num, nums, num_i32, num_via, gives}
 use Rattle.whole.proofs.Bits.{back, widened}
 use Rattle.settings.specs.Table.{sets}
 use Rattle.settings.proofs.Fit.{gains_fit}
 use Rattle.record.proofs.Fit.{loop_fit}
 use Rattle.record.proofs.Rules.{holds_of}
 use Rattle.pid.proofs.Shapes.{fixed_is}
-use borrow.Author.Rules.{rules}
 use Rattle.pid.proofs.law.fixed.Goals as goal
 use Rattle.pid.proofs.law.fixed.Goals.{After-wide, After-wide-2}
 

@@ -1,8 +1,7 @@
 use mathlib.Core.Path.{◌∙◌}
-use borrow.Author.Tests.{eq-eqb, ne_eqb, not-true, not-false}
+use borrow.Author.Tests.{eq-eqb, ne_eqb}
 use Rattle.whole.proofs.Truth.{so}
 use Rattle.pid.specs.Law.{law_of}
-use borrow.Author.Rules.{rules}
 use Rattle.pid.proofs.law.obey.Goals as goal
 
 pub returns-then-not-is_valid : goal.returns-then-not-is_valid

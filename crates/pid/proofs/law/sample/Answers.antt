@@ -12,7 +12,6 @@ use Rattle.window.specs.Window.{taken, latest, mean_of, mean_at}
 use Rattle.record.specs.declared.Loop.{Loop}
 use Rattle.record.specs.Record.{valid}
 use Rattle.record.proofs.Rules.{holds_of}
-use Rattle.pid.specs.Sample.{sensed_of, moved_of}
 use Rattle.pid.specs.Bounds.{FixedOk, MovingOk}
 use Rattle.pid.specs.Law.{fixed_of, moving_of, read_at, sample_of}
 use Rattle.pid.proofs.Sound.{fixed_ok, moving_ok, read_in}

@@ -8,7 +8,6 @@ use mir.Val.{to_z, of_z}
 use mir.Facts.{to_z-of_z}
 use Rattle.temperature.specs.Temperature.{ranged, raw_after}
 use Rattle.window.specs.Means.{front_filled}
-use Rattle.record.specs.declared.Loop.{Loop}
 use Rattle.record.proofs.Rules.{holds_of}
 use Rattle.record.proofs.Fit.{loop_fit}
 use Rattle.pid.specs.Law.{fixed_of, moving_of}

@@ -1,6 +1,5 @@
-use Prim.Native.Nat.{◌-◌, ◌<◌, ◌≤◌}
+use Prim.Native.Nat.{◌<◌}
 use mathlib.Core.Path.{◌≡◌, refl, sym, ap, ◌∙◌}
-use mathlib.Core.List.{List}
 use native.Mathlib.Omega.{arith}
 use borrow.Author.Rules.{rules}
 use lib.IntN.{ℤ, pos}
@@ -16,7 +15,7 @@ use Rattle.whole.proofs.Num.{nums, fits, gives}
 use Rattle.pid.specs.Bounds.{MovingOk}
 use Rattle.pid.specs.Sample.{sensed_of, acted_of, moved_of}
 use Rattle.pid.proofs.Samples.{sensed_ok}
-use Rattle.pid.proofs.Turns.{Turn, here, sample_in, moved_ok, next_turn, end_moved, end_outputs}
+use Rattle.pid.proofs.Turns.{here, sample_in, moved_ok, next_turn, end_moved, end_outputs}
 use Rattle.pid.proofs.play.run.Goals as goal
 use Rattle.pid.proofs.play.run.Goals.{After-act-next, In-loop-i}
 

@@ -1,6 +1,6 @@
 use mathlib.Core.Path.{refl, sym, ◌∙◌}
 use borrow.Author.Tests.{not-true, not-false}
-use Rattle.whole.proofs.Num.{nums, fits, gives}
+use Rattle.whole.proofs.Num.{nums, gives}
 use Rattle.pid.proofs.Samples.{acted_manual, acted_transfer, acted_ordinary}
 use Rattle.pid.proofs.Shapes.{moving_is}
 use Rattle.pid.proofs.sample.act.Goals as goal

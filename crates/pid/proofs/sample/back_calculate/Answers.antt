@@ -1,8 +1,7 @@
 use mathlib.Core.Path.{refl}
-use Rattle.whole.proofs.Num.{Num, nums, num_back, num_via, fits, stays, gives}
+use Rattle.whole.proofs.Num.{Num, nums, num_back, num_via, fits, gives}
 use Rattle.pid.specs.Sample.{back_calculated}
 use Rattle.pid.proofs.Arithmetic.{calls}
-use borrow.Author.Rules.{rules}
 use Rattle.pid.proofs.sample.back_calculate.Goals as goal
 use Rattle.pid.proofs.sample.back_calculate.Goals.{After-round}
 

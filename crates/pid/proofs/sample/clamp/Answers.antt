@@ -1,7 +1,6 @@
-use Rattle.whole.proofs.Num.{Num, nums, num_back, num_via, fits, gives, test}
+use Rattle.whole.proofs.Num.{Num, nums, num_back, num_via, gives, test}
 use Rattle.pid.specs.Sample.{clamped}
 use Rattle.pid.proofs.Arithmetic.{calls}
-use borrow.Author.Rules.{rules}
 use Rattle.pid.proofs.sample.clamp.Goals as goal
 use Rattle.pid.proofs.sample.clamp.Goals.{After-least, After-most-then-g-lt0}
 

@@ -5,7 +5,6 @@ use Rattle.pid.proofs.Shapes.{moving_is}
 use Rattle.whole.proofs.Num.{Num, nums, num_back, num_via, fits, stays, gives}
 use Rattle.pid.specs.Sample.{integrated, ordinary_of}
 use Rattle.pid.proofs.Arithmetic.{calls}
-use borrow.Author.Rules.{rules}
 use Rattle.pid.proofs.sample.ordinary.Goals as goal
 use Rattle.pid.proofs.sample.ordinary.Goals.{After-limit-at, After-sum-v}
 

@@ -1,7 +1,6 @@
 use Rattle.whole.proofs.Num.{Num, nums, num_via, fits, gives, test}
 use Rattle.pid.specs.Sample.{ramped}
 use Rattle.pid.proofs.Arithmetic.{calls}
-use borrow.Author.Rules.{rules}
 use Rattle.pid.proofs.sample.ramp.Goals as goal
 use Rattle.pid.proofs.sample.ramp.Goals.{After-least, After-least-2}
 

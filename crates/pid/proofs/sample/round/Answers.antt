@@ -1,4 +1,4 @@
-use Rattle.whole.proofs.Num.{nums, fits, gives}
+use Rattle.whole.proofs.Num.{nums, gives}
 use Rattle.pid.proofs.Rounding.{shifted}
 use Rattle.pid.proofs.sample.round.Goals as goal
 

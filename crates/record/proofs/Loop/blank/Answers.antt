@@ -1,6 +1,5 @@
 use Rattle.settings.specs.Settings.{blank_settings}
 use Rattle.record.specs.Record.{blank_loop}
-use borrow.Author.Rules.{rules}
 use Rattle.record.proofs.Loop.blank.Goals as goal
 
 pub returns : goal.returns

@@ -4,7 +4,6 @@ use Rattle.whole.proofs.Bits.{same_bits}
 use lib.Dec.{lit<}
 use lib.IntN.{pos}
 use mir.Syntax.{w64}
-use borrow.Author.Rules.{rules}
 use Rattle.record.proofs.Loop.fine_ok.Goals as goal
 
 pub returns : goal.returns

@@ -2,7 +2,6 @@ use mathlib.Core.Path.{ap, ◌∙◌}
 use Rattle.temperature.specs.declared.Guard.{Guard}
 use Rattle.temperature.specs.Temperature.{raw_ok}
 use Rattle.record.specs.Record.{valid}
-use borrow.Author.Rules.{rules}
 use Rattle.settings.proofs.Ranges.{meet}
 use Rattle.record.proofs.Loop.is_valid.Goals as goal
 

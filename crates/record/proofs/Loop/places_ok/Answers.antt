@@ -1,6 +1,5 @@
 use mir.Facts.{to_z-of_z}
 use Rattle.record.proofs.Fit.{loop_fit}
-use borrow.Author.Rules.{rules}
 use Rattle.record.proofs.Loop.places_ok.Goals as goal
 
 pub returns : goal.returns

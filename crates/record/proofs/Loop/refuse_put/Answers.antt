@@ -1,7 +1,6 @@
 use mir.Facts.{to_z-of_z}
 use Rattle.whole.proofs.Truth.{so}
 use Rattle.record.proofs.Fit.{loop_fit}
-use borrow.Author.Rules.{rules}
 use Rattle.record.proofs.Loop.refuse_put.Goals as goal
 
 pub returns-then-lies_in : goal.returns-then-lies_in

@@ -12,7 +12,6 @@ use Rattle.whole.proofs.Sizes.{size_fits}
 use Rattle.record.specs.Remaining.{distance, ceiling, remaining_of}
 use Rattle.record.proofs.Ceiling.{ceiling_most}
 use Rattle.record.proofs.Fit.{LoopFit, loop_fit}
-use borrow.Author.Rules.{rules}
 use Rattle.record.proofs.Loop.remaining.Goals as goal
 use Rattle.record.proofs.Loop.remaining.Goals.{After-plus}
 

@@ -3,7 +3,6 @@ use mathlib.Core.Path.{◌∙◌}
 use Rattle.settings.specs.Table.{table, heads}
 use Rattle.settings.proofs.Fit.{gains_fit}
 use Rattle.settings.proofs.Ranges.{held, meet, last}
-use borrow.Author.Rules.{rules}
 use Rattle.settings.proofs.Gains.in_table.Goals as goal
 
 pub returns : goal.returns

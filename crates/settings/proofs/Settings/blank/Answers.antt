@@ -1,5 +1,4 @@
 use Rattle.settings.specs.Settings.{blank_settings}
-use borrow.Author.Rules.{rules}
 use Rattle.settings.proofs.Settings.blank.Goals as goal
 
 pub returns : goal.returns

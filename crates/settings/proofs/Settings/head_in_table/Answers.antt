@@ -2,7 +2,6 @@ use mathlib.Core.Path.{◌∙◌}
 use Rattle.settings.specs.Table.{table}
 use Rattle.settings.proofs.Fit.{settings_fit}
 use Rattle.settings.proofs.Ranges.{held, meet, last}
-use borrow.Author.Rules.{rules}
 use Rattle.settings.proofs.Settings.head_in_table.Goals as goal
 
 pub returns : goal.returns

@@ -1,13 +1,10 @@
-use Prim.Native.Nat.{◌+◌, ◌-◌, ◌≤◌}
-use mathlib.Core.Path.{◌≡◌, refl, sym, ◌∙◌}
+use Prim.Native.Nat.{◌+◌}
+use mathlib.Core.Path.{◌≡◌, sym, ◌∙◌}
 use mathlib.Core.Bool.{◌&&◌}
-use borrow.Author.Tests.{not-true, not-false}
 use Rattle.whole.proofs.Truth.{so}
-use Rattle.settings.specs.Table.{sets}
 use Rattle.settings.proofs.Fit.{settings_fit}
 use Rattle.settings.proofs.Ranges.{sets_in, table_parts, table_sets, sets_in_next, sets_in_end}
 use native.Mathlib.Omega.{arith}
-use borrow.Author.Rules.{rules}
 use Rattle.settings.proofs.Settings.in_table.Goals as goal
 use Rattle.settings.proofs.Settings.in_table.Goals.{After-in_table}
 

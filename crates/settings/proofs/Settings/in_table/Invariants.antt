@@ -1,14 +1,8 @@
 -- The loop's invariant: the test of all gain sets is the test of those that are left.
-use Prim.Native.Nat.{◌+◌, ◌-◌, ◌≤◌}
-use mathlib.Core.Path.{◌≡◌, refl, sym, ◌∙◌}
-use mathlib.Core.Bool.{◌&&◌}
-use borrow.Author.Tests.{not-true, not-false}
-use Rattle.whole.proofs.Truth.{so}
+use Prim.Native.Nat.{◌-◌, ◌≤◌}
+use mathlib.Core.Path.{◌≡◌}
 use Rattle.settings.specs.Table.{sets}
-use Rattle.settings.proofs.Fit.{settings_fit}
-use Rattle.settings.proofs.Ranges.{sets_in, table_parts, table_sets, sets_in_next, sets_in_end}
-use native.Mathlib.Omega.{arith}
-use borrow.Author.Rules.{rules}
+use Rattle.settings.proofs.Ranges.{sets_in}
 use Rattle.settings.proofs.Settings.in_table.Given as goal
 
 abbrev pub invariant-loop-k : goal.invariant-loop-k

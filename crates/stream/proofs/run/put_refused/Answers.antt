@@ -7,7 +7,6 @@ use Rattle.word.proofs.Shows.{shown_room}
 use Rattle.stream.specs.Run.{refused_word, refused_line}
 use Rattle.word.proofs.Puts.{Puts, puts_none, puts_more, puts_all, code_room}
 use native.Mathlib.Omega.{arith}
-use borrow.Author.Rules.{rules}
 use Rattle.stream.proofs.run.put_refused.Goals as goal
 use Rattle.stream.proofs.run.put_refused.Goals.{After-put_unsigned, After-put_unsigned-space}
 

@@ -1,11 +1,9 @@
-use mathlib.Core.Path.{◌≡◌, sym, ap, ◌∙◌}
-use borrow.Author.Tests.{lt-leb, le-leb}
-use Rattle.stream.specs.Run.{over_of}
-use Rattle.stream.specs.Start.{start_of, begun_by, beginning, no_run}
+use mathlib.Core.Path.{sym, ap}
+use borrow.Author.Tests.{le-leb}
+use Rattle.stream.specs.Start.{begun_by, beginning, no_run}
 use Rattle.stream.proofs.Steps.{step_by}
-use Rattle.stream.proofs.Pieces.{ran_short, ran_done}
+use Rattle.stream.proofs.Pieces.{ran_done}
 use Rattle.stream.proofs.Starts.{line_few}
-use borrow.Author.Rules.{rules}
 use Rattle.stream.proofs.start.begin.Goals as goal
 
 pub begun-told-requires : goal.begun-told-requires

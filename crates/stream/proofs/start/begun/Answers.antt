@@ -1,13 +1,11 @@
 use mathlib.Core.Path.{sym, ap, ◌∙◌}
 use mathlib.Core.List.{[]}
-use native.Mathlib.Omega.{arith}
 use borrow.Author.Tests.{eq-eqb, ne_eqb}
 use Rattle.whole.proofs.Truth.{cond_yes, cond_no}
 use Rattle.stream.specs.declared.run.Run.{Run}
 use Rattle.stream.specs.Run.{Step, refusing}
 use Rattle.stream.specs.Start.{first_loop, start_of, begun_by}
 use Rattle.stream.proofs.Steps.{step_by, step_quiet}
-use borrow.Author.Rules.{rules}
 use Rattle.stream.proofs.start.begun.Goals as goal
 
 pub returns-then-code-eq0 : goal.returns-then-code-eq0

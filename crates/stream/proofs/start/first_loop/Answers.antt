@@ -5,7 +5,6 @@ use Rattle.delivery.specs.declared.numbered.Made.{Made}
 use Rattle.delivery.specs.declared.numbered.Delivered.{Delivered}
 use Rattle.delivery.specs.Numbered.{delivered_of}
 use Rattle.stream.specs.Start.{first_loop}
-use borrow.Author.Rules.{rules}
 use Rattle.stream.proofs.start.first_loop.Goals as goal
 
 pub returns-then-journal : goal.returns-then-journal

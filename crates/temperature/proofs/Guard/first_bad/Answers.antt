@@ -1,13 +1,12 @@
-use Prim.Native.Nat.{◌+◌, ◌-◌, ◌<◌, ◌≤◌}
+use Prim.Native.Nat.{◌<◌}
 use mathlib.Core.Path.{◌≡◌, sym, ap, ◌∙◌}
-use mathlib.Core.List.{List}
 use native.Mathlib.Omega.{arith}
 use borrow.Author.Rules.{rules}
-use lib.IntN.{ℤ, pos}
-use lib.ListN.{length, drop, get_or}
+use lib.IntN.{pos}
+use lib.ListN.{length, get_or}
 use mir.Facts.{to_z-of_z}
 use mir.Syntax.{w32}
-use Rattle.temperature.specs.Temperature.{code_of, past, first_bad, first_code}
+use Rattle.temperature.specs.Temperature.{code_of, past}
 use Rattle.temperature.proofs.Earliest.{taken_here, bad_here, none_left, bad_is}
 use Rattle.temperature.proofs.Guard.first_bad.Goals as goal
 use Rattle.temperature.proofs.Guard.first_bad.Goals.{After-past-guard, After-refusal-code}

@@ -1,14 +1,8 @@
 -- The loop's invariant: the earliest bad sample of all is i places on from that of those that are left.
-use Prim.Native.Nat.{◌+◌, ◌-◌, ◌<◌, ◌≤◌}
-use mathlib.Core.Path.{◌≡◌, sym, ap, ◌∙◌}
-use mathlib.Core.List.{List}
-use native.Mathlib.Omega.{arith}
-use borrow.Author.Rules.{rules}
-use lib.IntN.{ℤ, pos}
-use lib.ListN.{length, drop, get_or}
-use mir.Facts.{to_z-of_z}
-use Rattle.temperature.specs.Temperature.{code_of, past, first_bad, first_code}
-use Rattle.temperature.proofs.Earliest.{taken_here, bad_here, none_left, bad_is}
+use Prim.Native.Nat.{◌+◌, ◌-◌, ◌≤◌}
+use mathlib.Core.Path.{◌≡◌}
+use lib.ListN.{length, drop}
+use Rattle.temperature.specs.Temperature.{first_bad, first_code}
 use Rattle.temperature.proofs.Guard.first_bad.Given as goal
 
 abbrev pub invariant-loop-i : goal.invariant-loop-i

@@ -1,8 +1,6 @@
 use mathlib.Core.Path.{◌≡◌}
 use mathlib.Core.Bool.{true}
 use mir.Facts.{to_z-of_z}
-use borrow.Author.Tests.{not-true, not-false}
-use borrow.Author.Rules.{rules}
 use Rattle.whole.proofs.Truth.{so}
 use Rattle.settings.specs.Table.{in_reach}
 use Rattle.temperature.specs.Temperature.{code_of}

@@ -1,17 +1,12 @@
-use Prim.Native.Nat.{ℕ, ◌+◌, ◌-◌, ◌≤◌}
+use Prim.Native.Nat.{◌-◌}
 use mathlib.Core.Path.{◌≡◌, refl, sym, ap, ◌∙◌}
 use mathlib.Core.Bool.{Bool, true, false, ◌&&◌}
 use mathlib.Core.List.{List}
 use native.Mathlib.Omega.{arith}
-use borrow.Author.Rules.{rules}
-use lib.Dec.{leb, ltb}
-use lib.IntN.{ℤ, pos}
-use lib.ListN.{drop, get_or, drop_of_length-le}
-use mir.Facts.{to_z-of_z}
-use Rattle.settings.specs.Table.{window}
-use Rattle.window.specs.Window.{place_ok, places_ok, window_ok}
+use lib.IntN.{ℤ}
+use lib.ListN.{drop_of_length-le}
+use Rattle.window.specs.Window.{places_ok, window_ok}
 use Rattle.window.proofs.Fit.{window_fit}
-use Rattle.window.proofs.Rules.{places_next}
 use Rattle.window.proofs.Window.is_valid.Goals as goal
 
 and_true : (a : Bool) → (a && true) ≡ a

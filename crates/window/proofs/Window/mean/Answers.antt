@@ -1,20 +1,11 @@
-use Prim.Native.Nat.{ℕ}
-use mathlib.Core.Path.{◌≡◌, refl, sym, ap, ap₂, ◌∙◌}
+use mathlib.Core.Path.{◌≡◌, refl}
 use native.Mathlib.Omega.{arith}
-use borrow.Author.Rules.{rules}
-use lib.ListN.{take}
-use lib.Seq.{take_all}
 use mir.Syntax.{w64}
 use mir.Val.{to_z, of_z}
-use mir.Facts.{to_z-of_z}
-use Rattle.whole.specs.Rounding.{nearest}
 use Rattle.whole.proofs.Num.{nums, gives}
-use Rattle.settings.specs.Table.{window}
-use Rattle.window.specs.Window.{sum_of}
 use Rattle.window.specs.Bounds.{MeanOk}
 use Rattle.window.proofs.Fit.{window_fit}
 use Rattle.window.proofs.Sums.{mean_ok, sum_within}
-use Rattle.window.proofs.Taken.{mean_is}
 use Rattle.window.proofs.Window.mean.Goals as goal
 use Rattle.window.proofs.Window.mean.Goals.{After-sum_of}
 

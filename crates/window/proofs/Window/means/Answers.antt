@@ -1,5 +1,4 @@
 use mathlib.Core.Path.{◌≡◌, sym, ap, ◌∙◌}
-use borrow.Author.Rules.{rules}
 use Rattle.temperature.specs.declared.Bad.{Bad}
 use mathlib.Core.List.{List}
 use lib.IntN.{ℤ}

@@ -2,7 +2,6 @@ use Prim.Native.Nat.{ℕ, ◌≤◌, min}
 use mathlib.Core.Path.{◌≡◌, refl, sym, ap, ap₂, ◌∙◌}
 use mathlib.Core.List.{List, []}
 use native.Mathlib.Omega.{arith}
-use borrow.Author.Rules.{rules}
 use lib.IntN.{ℤ, pos, negsuc}
 use lib.ListN.{length, take, drop}
 use lib.Seq.{sets, take_all, length-take-le, length-sets}
@@ -14,7 +13,7 @@ use Rattle.window.specs.declared.Window.{Window}
 use Rattle.window.specs.declared.means.Summed.{Summed}
 use Rattle.window.specs.Window.{sum_of}
 use Rattle.window.specs.Means.{means_of, front_filled, past_of}
-use Rattle.window.specs.Bounds.{Bits, sum_reach}
+use Rattle.window.specs.Bounds.{sum_reach}
 use Rattle.window.specs.Running.{means_at}
 use Rattle.window.proofs.Fit.{window_fit}
 use Rattle.window.proofs.Sums.{bits_take, sum_reach_lem}

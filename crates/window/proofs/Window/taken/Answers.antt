@@ -1,18 +1,13 @@
-use Prim.Native.Nat.{ℕ, suc, ◌-◌, ◌≤◌}
-use mathlib.Core.Path.{◌≡◌, refl, sym, ap, ap₂, ◌∙◌}
-use mathlib.Core.List.{List, [], ◌∷◌, ◌++◌}
-use native.Mathlib.Numerals.{add-one}
+use Prim.Native.Nat.{ℕ}
+use mathlib.Core.Path.{◌≡◌, sym, ap, ap₂, ◌∙◌}
+use mathlib.Core.List.{List, ◌∷◌}
 use native.Mathlib.Omega.{arith}
-use borrow.Author.Rules.{rules}
-use lib.IntN.{ℤ, pos}
-use lib.ListN.{length, get_or, take, length-set}
-use lib.Seq.{take-suc, take-suc-set, take_all}
-use mir.Syntax.{w32}
-use mir.Val.{to_z, of_z}
+use lib.IntN.{ℤ}
+use lib.ListN.{take}
+use lib.Seq.{take_all}
 use mir.Facts.{to_z-of_z}
 use Rattle.settings.specs.Table.{window}
 use Rattle.window.specs.Window.{taken}
-use Rattle.window.proofs.Fit.{window_fit}
 use Rattle.window.proofs.Window.taken.Goals as goal
 
 pub returns : goal.returns

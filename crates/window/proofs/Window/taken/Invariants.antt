@@ -1,19 +1,9 @@
 -- The loop's invariant: the places so far are the new temperature and those before it.
-use Prim.Native.Nat.{ℕ, suc, ◌-◌, ◌≤◌}
-use mathlib.Core.Path.{◌≡◌, refl, sym, ap, ap₂, ◌∙◌}
-use mathlib.Core.List.{List, [], ◌∷◌, ◌++◌}
-use native.Mathlib.Numerals.{add-one}
-use native.Mathlib.Omega.{arith}
-use borrow.Author.Rules.{rules}
-use lib.IntN.{ℤ, pos}
-use lib.ListN.{length, get_or, take, length-set}
-use lib.Seq.{take-suc, take-suc-set, take_all}
-use mir.Syntax.{w32}
-use mir.Val.{to_z, of_z}
-use mir.Facts.{to_z-of_z}
+use Prim.Native.Nat.{◌-◌, ◌≤◌}
+use mathlib.Core.Path.{◌≡◌}
+use mathlib.Core.List.{◌∷◌}
+use lib.ListN.{length, take}
 use Rattle.settings.specs.Table.{window}
-use Rattle.window.specs.Window.{taken}
-use Rattle.window.proofs.Fit.{window_fit}
 use Rattle.window.proofs.Window.taken.Given as goal
 
 abbrev pub invariant-loop-i : goal.invariant-loop-i

@@ -1,5 +1,4 @@
 use mathlib.Core.Path.{sym, ◌∙◌}
-use borrow.Author.Rules.{rules}
 use mir.Syntax.{w32}
 use Rattle.whole.proofs.Bits.{back}
 use Rattle.window.proofs.Taken.{past_new, past_old}

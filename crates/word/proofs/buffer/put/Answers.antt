@@ -1,9 +1,6 @@
-use Prim.Native.Nat.{◌-◌, ◌≤◌}
-use mathlib.Core.Path.{◌≡◌, refl, sym, ap, ◌∙◌}
-use native.Mathlib.Omega.{arith}
-use lib.ListN.{length, drop, length-set, drop_of_length-le}
-use lib.Seq.{sets}
-use Rattle.word.proofs.Stores.{sets_out, sets_next}
+use mathlib.Core.Path.{sym, ◌∙◌}
+use lib.ListN.{drop}
+use Rattle.word.proofs.Stores.{sets_out}
 use Rattle.word.proofs.buffer.put.Goals as goal
 
 pub returns-then-buffer-k : goal.returns-then-buffer-k

@@ -1,10 +1,8 @@
 -- The loop's invariant: what is put in all is what is put of the bytes that are left.
 use Prim.Native.Nat.{◌-◌, ◌≤◌}
-use mathlib.Core.Path.{◌≡◌, refl, sym, ap, ◌∙◌}
-use native.Mathlib.Omega.{arith}
-use lib.ListN.{length, drop, length-set, drop_of_length-le}
+use mathlib.Core.Path.{◌≡◌}
+use lib.ListN.{length, drop}
 use lib.Seq.{sets}
-use Rattle.word.proofs.Stores.{sets_out, sets_next}
 use Rattle.word.proofs.buffer.put.Given as goal
 
 abbrev pub invariant-loop-j : goal.invariant-loop-j

@@ -1,9 +1,9 @@
 use Prim.Native.Nat.{◌+◌, ◌%◌}
-use mathlib.Core.Path.{◌≡◌, refl}
+use mathlib.Core.Path.{refl}
 use mathlib.Core.List.{[], ◌∷◌}
 use native.Mathlib.Omega.{arith}
 use Rattle.word.proofs.Decimals.{shown_last}
-use Rattle.word.proofs.Shows.{Partly, partly_place, partly_more, partly_all, ends_padded}
+use Rattle.word.proofs.Shows.{partly_more}
 use Rattle.word.proofs.decimal.digits_of.Goals as goal
 
 pub loop-left-init : goal.loop-left-init

@@ -1,10 +1,5 @@
 -- The loop's invariant: the digits of what is left are still to be put before those that stand there.
-use Prim.Native.Nat.{◌+◌, ◌%◌}
-use mathlib.Core.Path.{◌≡◌, refl}
-use mathlib.Core.List.{[], ◌∷◌}
-use native.Mathlib.Omega.{arith}
-use Rattle.word.proofs.Decimals.{shown_last}
-use Rattle.word.proofs.Shows.{Partly, partly_place, partly_more, partly_all, ends_padded}
+use Rattle.word.proofs.Shows.{Partly}
 use Rattle.word.proofs.decimal.digits_of.Given as goal
 
 abbrev pub invariant-loop-left : goal.invariant-loop-left

@@ -1,16 +1,8 @@
-use Prim.Native.Nat.{ℕ, ◌+◌, ◌-◌, ◌*◌, ◌^◌, ◌<◌, ◌≤◌}
-use mathlib.Core.Path.{◌≡◌, sym, ap, ◌∙◌}
-use mathlib.Core.Bool.{true, false, cond}
-use mathlib.Core.List.{List}
+use mathlib.Core.Path.{sym, ◌∙◌}
 use native.Mathlib.Omega.{arith}
-use borrow.Author.Tests.{not-true, not-false}
-use lib.ListN.{length, get_or, drop, drop_of_length-le}
 use Rattle.whole.proofs.Truth.{never, cond_no}
-use Rattle.whole.proofs.Lists.{next}
-use Rattle.word.specs.declared.decimal.Size.{Size}
-use Rattle.word.specs.declared.decimal.Size.TheVariants.{Is, Wrong}
-use Rattle.word.specs.Decimal.{is_digit, all_digits, long_digits, size_from, size_of}
-use Rattle.word.proofs.Digits.{Digit, digit, unsized, size_if_digits, size_in, step_bound, small}
+use Rattle.word.specs.Decimal.{size_of}
+use Rattle.word.proofs.Digits.{unsized, size_if_digits}
 use Rattle.word.proofs.decimal.size_of.Goals as goal
 
 pub returns-then-length-lt1 : goal.returns-then-length-lt1

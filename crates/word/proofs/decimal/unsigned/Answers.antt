@@ -5,7 +5,6 @@ use Rattle.whole.proofs.Truth.{so}
 use Rattle.word.specs.Decimal.{unsigned}
 use Rattle.whole.proofs.Lists.{part_left}
 use Rattle.word.proofs.Digits.{minus_there}
-use borrow.Author.Rules.{rules}
 use Rattle.word.proofs.decimal.unsigned.Goals as goal
 use Rattle.word.proofs.decimal.unsigned.Goals.{Then-has_minus}
 

@@ -1,12 +1,5 @@
-use Prim.Native.Nat.{ℕ, ◌+◌, ◌-◌, ◌<◌, ◌≤◌}
-use mathlib.Core.Path.{◌≡◌, refl, sym, ap, ◌∙◌}
-use mathlib.Core.Bool.{◌&&◌}
-use mathlib.Core.List.{List}
-use native.Mathlib.Omega.{arith}
-use borrow.Author.Tests.{eq-eqb, ne_eqb}
-use lib.Dec.{eqb}
-use lib.ListN.{length, drop, get_or, drop_of_length-le}
-use Rattle.word.specs.End.{begins}
+use mathlib.Core.Path.{sym, ◌∙◌}
+use lib.ListN.{drop_of_length-le}
 use Rattle.whole.proofs.Lists.{next}
 use Rattle.word.proofs.end.begins.Goals as goal
 

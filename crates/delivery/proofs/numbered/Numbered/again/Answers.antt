@@ -1,9 +1,7 @@
 use mir.Facts.{to_z-of_z}
-use borrow.Author.Tests.{not-true, not-false}
 use Rattle.whole.proofs.Truth.{so}
 use Rattle.memory.proofs.Fit.{entry_fit}
 use Rattle.delivery.specs.Numbered.{settled_of}
-use borrow.Author.Rules.{rules}
 use Rattle.delivery.proofs.numbered.Numbered.again.Goals as goal
 
 pub returns-then-not-is_valid : goal.returns-then-not-is_valid

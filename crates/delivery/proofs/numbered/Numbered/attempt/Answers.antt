@@ -2,7 +2,6 @@ use mathlib.Core.Path.{ap, ◌∙◌}
 use borrow.Author.Tests.{eq-eqb, ne_eqb}
 use Rattle.delivery.specs.Numbered.{answer_of}
 use Rattle.delivery.proofs.Served.{tried}
-use borrow.Author.Rules.{rules}
 use Rattle.delivery.proofs.numbered.Numbered.attempt.Goals as goal
 
 pub returns-then-code-eq10 : goal.returns-then-code-eq10

@@ -1,13 +1,11 @@
 use mathlib.Core.Path.{◌≡◌, ◌∙◌}
 use mathlib.Core.Bool.{cond}
-use borrow.Author.Tests.{not-true, not-false}
 use Rattle.whole.proofs.Truth.{so}
 use Rattle.record.specs.Record.{valid}
 use Rattle.memory.specs.declared.Found.{Found}
 use Rattle.memory.specs.declared.Found.TheVariants.{Old, Reused, Repeated, Ahead, Next}
 use Rattle.delivery.specs.Numbered.{broken_of, served_of, delivered_of, settled_of, tried_of}
 use Rattle.delivery.proofs.Served.{broken_memory, by_number}
-use borrow.Author.Rules.{rules}
 use Rattle.delivery.proofs.numbered.Numbered.deliver.Goals as goal
 use Rattle.delivery.proofs.numbered.Numbered.deliver.Goals.{After-find-found}
 

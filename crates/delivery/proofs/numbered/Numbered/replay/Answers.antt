@@ -1,14 +1,6 @@
-use Prim.Native.Nat.{ℕ, ◌+◌}
-use mathlib.Core.Path.{◌≡◌, ap, ◌∙◌}
-use mathlib.Core.List.{List}
+use mathlib.Core.Path.{◌∙◌}
 use native.Mathlib.Omega.{arith}
-use borrow.Author.Rules.{rules}
-use borrow.Author.Tests.{not-true, not-false}
-use lib.IntN.{ℤ}
-use lib.ListN.{length}
 use Rattle.whole.proofs.Truth.{so}
-use Rattle.delivery.specs.declared.numbered.Numbered.{Numbered}
-use Rattle.delivery.specs.Replay.{replayed_of, written_of}
 use Rattle.delivery.proofs.ReplayOrder.{broken, stops_1, stops_3, stops_12, stops_13}
 use Rattle.delivery.proofs.numbered.Numbered.replay.Goals as goal
 

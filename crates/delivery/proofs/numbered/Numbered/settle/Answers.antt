@@ -1,6 +1,5 @@
 use Rattle.whole.proofs.Truth.{so}
 use Rattle.delivery.specs.Numbered.{settled_of}
-use borrow.Author.Rules.{rules}
 use Rattle.delivery.proofs.numbered.Numbered.settle.Goals as goal
 
 pub returns-then-is_valid : goal.returns-then-is_valid

@@ -5,7 +5,6 @@ use lib.ListN.{get_or-eq_default}
 use Rattle.settings.specs.declared.table.Row.{Row}
 use Rattle.settings.specs.Table.{sets, heads, keys, numbered, rows, no_row}
 use Rattle.settings.proofs.Rows.{row_head, row_set, rows_long, kind_short}
-use borrow.Author.Rules.{rules}
 use Rattle.settings.proofs.table.Row.at.Goals as goal
 
 pub returns-then-i-lt-HEAD : goal.returns-then-i-lt-HEAD

@@ -2,7 +2,6 @@ use Prim.Native.Nat.{◌≤◌}
 use mir.Facts.{to_z-of_z}
 use mir.Syntax.{w32}
 use native.Mathlib.Omega.{arith}
-use Rattle.word.specs.Decimal.{shown}
 use Rattle.word.proofs.Shows.{shown_room}
 use Rattle.settings.proofs.Rows.{numbered_is}
 use borrow.Author.Rules.{rules}

@@ -1,11 +1,10 @@
 use Prim.Native.Nat.{◌/◌, ◌≤◌}
 use native.Mathlib.Omega.{arith}
-use borrow.Author.Tests.{lt-leb, le-leb}
+use borrow.Author.Tests.{le-leb}
 use lib.ListN.{length}
 use Rattle.stream.specs.Run.{line_room}
 use Rattle.stream.specs.Feed.{passing}
-use Rattle.stream.proofs.Pieces.{ran_short, ran_done}
-use borrow.Author.Rules.{rules}
+use Rattle.stream.proofs.Pieces.{ran_done}
 use Rattle.stream.proofs.run.Run.feed.Goals as goal
 
 pub returns : goal.returns

@@ -1,12 +1,11 @@
 use mathlib.Core.Path.{◌≡◌, refl}
 use native.Mathlib.Omega.{arith}
-use borrow.Author.Tests.{lt-leb, le-leb}
+use borrow.Author.Tests.{le-leb}
 use Rattle.whole.proofs.Truth.{cond_yes, cond_no}
 use Rattle.stream.specs.Run.{refusing}
 use Rattle.stream.specs.Feed.{idle, finishing}
 use Rattle.stream.proofs.Steps.{step_quiet}
-use Rattle.stream.proofs.Pieces.{ran_short, ran_done}
-use borrow.Author.Rules.{rules}
+use Rattle.stream.proofs.Pieces.{ran_done}
 use Rattle.stream.proofs.run.Run.finish.Goals as goal
 
 pub returns-then-self : goal.returns-then-self

@@ -1,14 +1,12 @@
 use mathlib.Core.Path.{◌≡◌, sym, ap, ◌∙◌}
-use native.Mathlib.Omega.{arith}
-use borrow.Author.Tests.{eq-eqb, ne_eqb}
+use borrow.Author.Tests.{ne_eqb}
 use lib.Seq.{sets}
-use Rattle.whole.proofs.Truth.{cond_yes, cond_no}
+use Rattle.whole.proofs.Truth.{cond_no}
 use Rattle.answer.specs.declared.verdict.Judged.{Judged}
 use Rattle.answer.specs.Judge.{judged_by}
 use Rattle.answer.proofs.promises.Verdict.{refused_quiet}
-use Rattle.stream.specs.Run.{refusing, next_of}
-use Rattle.stream.proofs.Steps.{step_by, step_made}
-use borrow.Author.Rules.{rules}
+use Rattle.stream.specs.Run.{refusing}
+use Rattle.stream.proofs.Steps.{step_by}
 use Rattle.stream.proofs.run.Run.judge.Goals as goal
 
 pub returns : goal.returns

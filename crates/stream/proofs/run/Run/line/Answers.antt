@@ -1,11 +1,11 @@
 use Prim.Native.Nat.{ℕ, ◌≤◌}
-use mathlib.Core.Path.{◌≡◌, sym, ap, ◌∙◌}
+use mathlib.Core.Path.{◌≡◌, ap, ◌∙◌}
 use mathlib.Core.List.{List}
 use native.Mathlib.Omega.{arith}
 use lib.ListN.{length}
-use lib.Seq.{length-sets, length-take-le}
+use lib.Seq.{length-sets}
 use Rattle.stream.specs.declared.run.Run.{Run}
-use Rattle.stream.specs.Run.{line_most, line_step, word_of}
+use Rattle.stream.specs.Run.{line_most, line_step}
 use Rattle.answer.specs.Judge.{judged_by}
 use Rattle.stream.proofs.Steps.{step_by}
 use Rattle.stream.proofs.Line.{grown_word}

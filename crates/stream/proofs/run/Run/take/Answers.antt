@@ -1,14 +1,12 @@
 use Prim.Native.Nat.{◌+◌}
 use mathlib.Core.Path.{◌≡◌, refl, ◌∙◌}
 use mathlib.Core.Bool.{false}
-use borrow.Author.Tests.{ltb-false}
 use lib.Dec.{ltb}
 use lib.ListN.{length}
 use Rattle.whole.proofs.Truth.{so, cond_yes, cond_no}
 use Rattle.stream.specs.Run.{line_most}
 use Rattle.stream.specs.Feed.{idle, line_of}
 use Rattle.stream.proofs.Steps.{step_by, step_quiet}
-use borrow.Author.Rules.{rules}
 use Rattle.stream.proofs.run.Run.take.Goals as goal
 use Rattle.stream.proofs.run.Run.take.Goals.{Else-too_long}
 

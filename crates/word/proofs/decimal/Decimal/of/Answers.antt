@@ -1,5 +1,4 @@
 use mathlib.Core.Path.{◌∙◌}
-use borrow.Author.Rules.{rules}
 use Rattle.word.proofs.Digits.{within_bits}
 use Rattle.word.proofs.decimal.Decimal.of.Goals as goal
 

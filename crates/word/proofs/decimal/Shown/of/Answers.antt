@@ -1,14 +1,13 @@
 use Prim.Native.Nat.{ℕ, ◌≤◌}
 use mathlib.Core.Path.{◌≡◌, sym, ap, ◌∙◌}
 use native.Mathlib.Omega.{arith}
-use borrow.Author.Rules.{rules}
 use lib.IntN.{nat_abs}
 use lib.ListN.{length}
 use mir.Syntax.{w32}
 use mir.Val.{Fits}
 use mir.Facts.{to_z-of_z}
 use Rattle.word.specs.Decimal.{shown, padded}
-use Rattle.word.proofs.Signs.{abs_fits, decimal_neg, decimal_pos}
+use Rattle.word.proofs.Signs.{abs_fits, decimal_neg}
 use Rattle.word.proofs.Decimals.{shown_form}
 use Rattle.word.proofs.Shows.{padded_more}
 use Rattle.word.proofs.decimal.Shown.of.Goals as goal

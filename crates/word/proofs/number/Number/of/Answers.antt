@@ -8,7 +8,6 @@ use Rattle.word.specs.declared.number.Number.TheVariants.{Is, Wrong}
 use Rattle.word.specs.Decimal.{long_digits}
 use Rattle.word.specs.Number.{highest, number_in}
 use Rattle.word.proofs.Digits.{made, made_of}
-use borrow.Author.Rules.{rules}
 use Rattle.word.proofs.number.Number.of.Goals as goal
 use Rattle.word.proofs.number.Number.of.Goals.{After-size_of}
 
