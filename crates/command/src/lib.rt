@@ -2,7 +2,7 @@
 #![tactic(auto)]
 
 ghost use Rattle.std.specs.Prelude.{◌≡◌};
-ghost use Rattle.command.specs.Command.{kind_of, value_of, second_of, same as Command·same};
+ghost use Rattle.command.specs.Command.{kind_of, value_of, second_of, same};
 
 #[derive(Clone, Copy)]
 pub enum Command {
@@ -56,7 +56,7 @@ impl Command {
 
     // "same command with same values"
     pub fn same(self, other: Command) -> bool
-        ensures { result ≡ Command·same self other }
+        ensures { result ≡ same self other }
     {
         (self.kind() == other.kind())
             & whole::equal(self.value(), other.value())

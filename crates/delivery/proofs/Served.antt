@@ -20,7 +20,7 @@ use Rattle.command.proofs.Same.{same_self}
 use Rattle.memory.specs.declared.Found.{Found}
 use Rattle.memory.specs.declared.Found.TheVariants.{Old, Reused, Repeated, Ahead, Next}
 use Rattle.memory.specs.declared.Entry.{Entry}
-use Rattle.memory.specs.Memory.{window, memory_ok as Memory·memory_ok, is_last, entry_at, found_in, found_of, remembered}
+use Rattle.memory.specs.Memory.{window, memory_ok as memory_rules, is_last, entry_at, found_in, found_of, remembered}
 use Rattle.memory.proofs.Order.{InWindow, Means, means, number_zero, number_old, number_within, number_next, newest_first, repeated}
 use Rattle.memory.proofs.Rules.{remembered_ok}
 use Rattle.delivery.specs.declared.numbered.Numbered.{Numbered}
@@ -119,7 +119,7 @@ module _ (s : Numbered) (n : ℕ) (c : Command) (v : valid_of s ≡ true) where
       let l = step_of s.state c in
       let b = both (memory_ok s) (valid s.state) v in
       let w = step_valid s.state c b.1 z in
-      let m = subst (λ (t : Settings). Memory·memory_ok t.lo t.hi s.memory ≡ true) (sym (settings_stay s.state c)) b.0 in
+      let m = subst (λ (t : Settings). memory_rules t.lo t.hi s.memory ≡ true) (sym (settings_stay s.state c)) b.0 in
       and (remembered_ok l.settings.lo l.settings.hi s.memory m n c l.u e (holds_of l w).u) w
 
 pub delivered_valid : (s : Numbered) (n : ℕ) (c : Command) → valid_of s ≡ true → valid_of (delivered_of s n c).state ≡ true

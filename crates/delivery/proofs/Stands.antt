@@ -21,7 +21,7 @@ use Rattle.pid.proofs.Obeys.{settings_stay}
 use Rattle.memory.specs.declared.Entry.{Entry}
 use Rattle.memory.specs.declared.Found.{Found}
 use Rattle.memory.specs.declared.Found.TheVariants.{Old, Reused, Repeated, Ahead, Next}
-use Rattle.memory.specs.Memory.{window, entry_of, no_entry, entries_ok, memory_ok as Memory·memory_ok, is_last, found_in, found_of, remembered}
+use Rattle.memory.specs.Memory.{window, entry_of, no_entry, entries_ok, memory_ok as memory_rules, is_last, found_in, found_of, remembered}
 use Rattle.memory.specs.Walk.{Answer, Kept, Walk, keeps, kept_answer, keeping, onward}
 use Rattle.memory.proofs.Order.{number_zero, number_old, number_within, number_ahead, number_next, Means, means}
 use Rattle.memory.proofs.Walked.{Sent, Runs, found_at, refusing, looked, tried, served, Engine, number_next as kept_next}
@@ -154,8 +154,8 @@ module _ (w : Walk plain) (d : Sent plain) where
         ∙ at_place window w.recent (w.count - d.number) k
         ∙ sym (cond_no _ _ z ∙ cond_no _ _ a ∙ cond_no _ _ t))))
 
-    memory_ok_lem : Memory·memory_ok w.state.settings.lo w.state.settings.hi s.memory ≡ true
-    unfolding Memory·memory_ok
+    memory_ok_lem : memory_rules w.state.settings.lo w.state.settings.hi s.memory ≡ true
+    unfolding memory_rules
     memory_ok_lem =
         and (eq-eqb _ window (places_length window w.recent))
         (places_ok_lem w.state.settings.lo w.state.settings.hi window w.count w.recent r g.outputs)

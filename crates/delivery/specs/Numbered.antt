@@ -5,13 +5,13 @@ use Rattle.settings.specs.declared.Settings.{Settings}
 use Rattle.command.specs.declared.Command.{Command}
 use Rattle.record.specs.declared.Loop.{Loop}
 use Rattle.record.specs.Record.{blank_loop, valid}
-use Rattle.record.specs.Record.{made_of as Loop·madeOf}
+use Rattle.record.specs.Record.{made_of as loop_made_of}
 use Rattle.record.specs.Refusals.{refusal_of}
 use Rattle.pid.specs.Law.{step_of}
 use Rattle.memory.specs.declared.Entry.{Entry}
 use Rattle.memory.specs.declared.Found.{Found}
 use Rattle.memory.specs.declared.Found.TheVariants.{Old, Reused, Repeated, Ahead, Next}
-use Rattle.memory.specs.Memory.{no_memory, remembered, memory_ok as Memory·memory_ok, found_of}
+use Rattle.memory.specs.Memory.{no_memory, remembered, memory_ok as memory_rules, found_of}
 use Rattle.delivery.specs.declared.numbered.Numbered.{Numbered}
 use Rattle.delivery.specs.declared.numbered.Made.{Made}
 use Rattle.delivery.specs.declared.numbered.Delivered.{Delivered}
@@ -32,11 +32,11 @@ blank_of = new_of blank_loop
 
 -- "Making a loop from settings tests 11, then 16. Where making a loop [..] is refused, what stands beside the code is the blank"
 abbrev pub made_of : Settings → Made
-made_of s = record { code = (Loop·madeOf s).code; state = new_of (Loop·madeOf s).state }
+made_of s = record { code = (loop_made_of s).code; state = new_of (loop_made_of s).state }
 
 -- the memory's state rules; "their outputs lie in lo..hi"
 abbrev pub memory_ok : Numbered → Bool
-memory_ok s = Memory·memory_ok s.state.settings.lo s.state.settings.hi s.memory
+memory_ok s = memory_rules s.state.settings.lo s.state.settings.hi s.memory
 
 -- the state rules, all of them
 abbrev pub valid_of : Numbered → Bool

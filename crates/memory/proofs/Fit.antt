@@ -1,5 +1,5 @@
 -- What owning tells: an entry's output fits its type, and a memory has as many places as the request says. Each takes a parameter's
--- `c.good.i`.
+-- `c.well_formed.i`.
 use mathlib.Core.Path.{◌≡◌}
 use mathlib.Core.List.{[], ◌∷◌}
 use lib.ListN.{length}

@@ -24,7 +24,7 @@ use Rattle.memory.specs.declared.Found.{Found}
 use Rattle.memory.specs.declared.Found.TheVariants.{Old, Reused, Repeated, Ahead, Next}
 use Rattle.memory.specs.declared.Entry.{Entry}
 use Rattle.memory.specs.declared.Memory.{Memory}
-use Rattle.memory.specs.Memory.{window, entry_of, no_entry, remembered, holds_ok, entries_ok, memory_ok as Memory·memory_ok, is_last, found_in, found_by, entry_at, found_of}
+use Rattle.memory.specs.Memory.{window, entry_of, no_entry, remembered, holds_ok, entries_ok, memory_ok as memory_rules, is_last, found_in, found_by, entry_at, found_of}
 use Rattle.memory.specs.Walk.{Delivery}
 use Rattle.delivery.specs.declared.numbered.Numbered.{Numbered}
 use Rattle.delivery.specs.declared.numbered.Delivered.{Delivered}
@@ -89,8 +89,8 @@ entries_mirror : (k : Mirror) (n : ℕ) (lo hi : ℤ) (es : List Entry) → entr
 entries_mirror k n lo hi [] = refl
 entries_mirror k n lo hi (e ∷ es) = rw (holds_mirror k (ltb 0 n) lo hi e.command e.output, entries_mirror k (n - 1) lo hi es)
 
-memory_mirror : (k : Mirror) (lo hi : ℤ) (m : Memory) → Memory·memory_ok (neg_ℤ hi) (neg_ℤ lo) (flip_memory k m) ≡ Memory·memory_ok lo hi m
-unfolding Memory·memory_ok
+memory_mirror : (k : Mirror) (lo hi : ℤ) (m : Memory) → memory_rules (neg_ℤ hi) (neg_ℤ lo) (flip_memory k m) ≡ memory_rules lo hi m
+unfolding memory_rules
 memory_mirror k lo hi m = rw (length-map m.entries (flip_entry k), entries_mirror k m.number lo hi m.entries)
 
 pub valid_of_mirror : (k : Mirror) (s : Numbered) → valid_of (flip_numbered k s) ≡ valid_of s

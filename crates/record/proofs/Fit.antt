@@ -1,4 +1,4 @@
--- What owning a loop tells of its signed fields: each fits its type. `loop_fit` takes a parameter's `c.good.0`.
+-- What owning a loop tells of its signed fields: each fits its type. `loop_fit` takes a parameter's `c.well_formed.0`.
 use mathlib.Core.List.{[], ◌∷◌}
 use mir.Syntax.{w32, w64}
 use mir.Val.{SFits}

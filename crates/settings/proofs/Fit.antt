@@ -1,5 +1,5 @@
 -- What owning settings or a gain set tells of them: each signed field fits its type, and there are as many gain sets as 01
--- says. Each takes a parameter's `c.well_formed.0`, or what a call's result `.ok` says.
+-- says. Each takes a parameter's `c.well_formed.0`, or what a call's result `.type_inv` says.
 use Prim.Native.Nat.{ℕ, zero, suc, ◌<◌}
 use mathlib.Core.Path.{◌≡◌}
 use mathlib.Core.List.{List, [], ◌∷◌}

@@ -1,5 +1,5 @@
 -- What owning a window tells of it: each place fits its type, and there are as many as the request says. `window_fit` takes a
--- parameter's `c.well_formed.0`, or what a call's result `.ok` says.
+-- parameter's `c.well_formed.0`, or what a call's result `.type_inv` says.
 use Prim.Native.Nat.{zero, suc}
 use mathlib.Core.Path.{◌≡◌}
 use mathlib.Core.List.{List, [], ◌∷◌}

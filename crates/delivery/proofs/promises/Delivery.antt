@@ -19,7 +19,7 @@ use Rattle.record.proofs.Rules.{holds_of}
 use Rattle.record.proofs.promises.Made as loops
 use Rattle.pid.specs.Law.{step_of}
 use Rattle.window.specs.Window.{fresh_window, window_ok}
-use Rattle.memory.specs.Memory.{window, memory_ok as Memory·memory_ok}
+use Rattle.memory.specs.Memory.{window, memory_ok as memory_rules}
 use Rattle.memory.proofs.Rules.{no_memory_ok}
 use Rattle.delivery.specs.declared.numbered.Numbered.{Numbered}
 use Rattle.delivery.specs.declared.numbered.Delivered.{Delivered}
@@ -88,5 +88,5 @@ second_writes_nothing s n c =
 
 -- a record that keeps the state rules and is never reached: automatic, with nothing kept
 pub never_reached : valid_of (new_of (at_limit 0 (fine 900 0))) ≡ true
-unfolding fresh_window window_ok valid in_table rows_of window Memory·memory_ok
+unfolding fresh_window window_ok valid in_table rows_of window memory_rules
 never_reached = refl

@@ -13,7 +13,7 @@ use Rattle.command.specs.declared.Command.TheVariants.{Sample, Automatic, Target
 use Rattle.temperature.specs.Temperature.{code_of}
 use Rattle.record.specs.declared.Loop.{Loop}
 use Rattle.record.specs.Record.{fresh_of}
-use Rattle.record.specs.Record.{made_of as Loop·madeOf}
+use Rattle.record.specs.Record.{made_of as loop_made_of}
 use Rattle.record.specs.Refusals.{refusal_of}
 use Rattle.pid.specs.Units.{rounded}
 use Rattle.settings.specs.SettingsC.{settings_c}
@@ -61,7 +61,7 @@ exact a b = (same_equal a b, λ e. subst (λ (x : Command). same a x ≡ true) e
 
 -- settings C are accepted
 pub accepted_c : (made_of settings_c).code ≡ 0
-unfolding Loop·madeOf in_table rows_of
+unfolding loop_made_of in_table rows_of
 accepted_c = refl
 
 -- of the bench log's fourteen deliveries the walk keeps ten: not the repeat, the reused number, the gap and the refused put

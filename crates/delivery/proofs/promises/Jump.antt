@@ -32,7 +32,7 @@ use Rattle.pid.specs.Plain.{plain_refusal_of}
 use Rattle.pid.specs.Run.{obeyed, accepted, samples}
 use Rattle.pid.proofs.Obeys.{settings_after}
 use Rattle.pid.proofs.promises.Jump.{farthest_is_plain, taken_is_near, neighbours}
-use Rattle.memory.specs.Memory.{window, memory_ok as Memory·memory_ok}
+use Rattle.memory.specs.Memory.{window, memory_ok as memory_rules}
 use Rattle.memory.specs.Walk.{Delivery, kept}
 use Rattle.delivery.specs.declared.numbered.Numbered.{Numbered}
 use Rattle.delivery.specs.declared.replay.Replayed.{Replayed}
@@ -113,5 +113,5 @@ pub replays_met :
     (replayed (pos 490 ∷ pos 479 ∷ []) ≡ refused_of tight 19 1)
     × (replayed (pos 490 ∷ pos 501 ∷ pos 1000001 ∷ []) ≡ refused_of tight 19 1)
     × (replayed (pos 490 ∷ pos 1000001 ∷ pos 5 ∷ []) ≡ refused_of tight 4 1)
-unfolding rows_of in_table fresh_window window_ok valid window Memory·memory_ok code_of first_bad first_code replay_refusal replayed_of
+unfolding rows_of in_table fresh_window window_ok valid window memory_rules code_of first_bad first_code replay_refusal replayed_of
 replays_met = (refl, refl, refl)

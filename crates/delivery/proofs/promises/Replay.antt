@@ -26,7 +26,7 @@ use Rattle.pid.specs.Play.{has_place, after_samples, outputs_of}
 use Rattle.command.specs.Sequence.{after, each}
 use Rattle.window.specs.Window.{fresh_window, window_ok}
 use Rattle.pid.proofs.Plays.{bad_after}
-use Rattle.memory.specs.Memory.{window, memory_ok as Memory·memory_ok, last_number, filled_of}
+use Rattle.memory.specs.Memory.{window, memory_ok as memory_rules, last_number, filled_of}
 use Rattle.memory.specs.Walk.{Answer}
 use Rattle.delivery.specs.declared.numbered.Numbered.{Numbered}
 use Rattle.delivery.specs.declared.numbered.Delivered.{Delivered}
@@ -194,5 +194,5 @@ integral_within s first samples out v =
 
 -- a replay that is not refused
 pub taken_c : replay_refusal (new_of (fresh_of settings_c)) 1 (pos 480 ∷ []) 1 ≡ 0
-unfolding replay_refusal first_code code_of fresh_window window_ok valid in_table rows_of window Memory·memory_ok
+unfolding replay_refusal first_code code_of fresh_window window_ok valid in_table rows_of window memory_rules
 taken_c = refl

@@ -27,7 +27,7 @@ use Rattle.pid.specs.Play.{outputs_of}
 use Rattle.pid.proofs.Plays.{good_first}
 use Rattle.memory.specs.declared.Last.TheVariants.{Kept}
 use Rattle.memory.specs.declared.Entry.{Entry}
-use Rattle.memory.specs.Memory.{window, last_number, remembered, filled_of, memory_ok as Memory·memory_ok, is_last, found_in, found_by, entry_at}
+use Rattle.memory.specs.Memory.{window, last_number, remembered, filled_of, memory_ok as memory_rules, is_last, found_in, found_by, entry_at}
 use Rattle.memory.specs.Walk.{Delivery, kept}
 use Rattle.memory.proofs.Order.{InWindow, last_is, is_last_lem}
 use Rattle.memory.proofs.Walked.{ends, kept_most}
@@ -186,7 +186,7 @@ tenth = after handed_back (new_of (fresh_of settings_c)) (map (λ (r : Row). sen
 pub late_met :
     (answered tenth (sent 4 (Sample (pos 480))) ≡ record { code = 0; output = pos 105; number = 4 })
     × (answered tenth (sent 4 (Sample (pos 481))) ≡ record { code = 2; output = pos 237; number = 10 })
-unfolding rounded rows_of in_table fresh_window taken mean_at window_ok valid lesser greater limited ramped filtered derivative sensed_of clamped back_calculated integrated acted_of code_of sample_of step_of refusal_of window Memory·memory_ok remembered is_last found_in found_by served_of delivered_of after log
+unfolding rounded rows_of in_table fresh_window taken mean_at window_ok valid lesser greater limited ramped filtered derivative sensed_of clamped back_calculated integrated acted_of code_of sample_of step_of refusal_of window memory_rules remembered is_last found_in found_by served_of delivered_of after log
 late_met = (refl, refl)
 
 -- a delivery that is kept, and 31 others since: what `first_answer_again` asks
@@ -197,5 +197,5 @@ holds number (suc n) = sent number Hold ∷ holds (number + 1) n
 pub farthest_met :
     IsKept (new_of (fresh_of settings_c)) (sent 1 (Sample (pos 480)))
     × (length (kept_on (handed_back (new_of (fresh_of settings_c)) (sent 1 (Sample (pos 480)))) (holds 2 31)) ≡ 31)
-unfolding rounded rows_of in_table fresh_window taken mean_at window_ok valid lesser greater limited ramped filtered derivative sensed_of clamped back_calculated integrated acted_of code_of sample_of step_of refusal_of window Memory·memory_ok remembered found_by served_of delivered_of recalled kept
+unfolding rounded rows_of in_table fresh_window taken mean_at window_ok valid lesser greater limited ramped filtered derivative sensed_of clamped back_calculated integrated acted_of code_of sample_of step_of refusal_of window memory_rules remembered found_by served_of delivered_of recalled kept
 farthest_met = (record { number = refl; accepted = refl }, refl)

@@ -15,7 +15,7 @@ use Rattle.command.specs.declared.Command.{Command}
 use Rattle.command.specs.Sequence.{after, each}
 use Rattle.command.proofs.Sequences.{after_through, each_through}
 use Rattle.record.specs.declared.Loop.{Loop}
-use Rattle.record.specs.Record.{made_of as Loop·madeOf}
+use Rattle.record.specs.Record.{made_of as loop_made_of}
 use Rattle.pid.specs.declared.law.Obeyed.{Obeyed}
 use Rattle.pid.specs.Law.{law_of}
 use Rattle.pid.specs.Play.{played_of, wrote_of}
@@ -42,12 +42,12 @@ twice = numbered_twice
 
 -- mirrored settings are refused alike, so accepted exactly when the others are
 pub made_code : (k : Mirror) (s : Settings) → (made_of (flip_settings k s)).code ≡ (made_of s).code
-unfolding Loop·madeOf
+unfolding loop_made_of
 made_code k s = rw (settings_mirror k s) (by_test (eqb (settings_refusal s) 0) (λ e. rw e) (λ e. rw e))
 
 -- and the loops made from accepted ones mirror each other
 pub made_state : (k : Mirror) (s : Settings) → (made_of s).code ≡ 0 → (made_of (flip_settings k s)).state ≡ flip_numbered k (made_of s).state
-unfolding Loop·madeOf window
+unfolding loop_made_of window
 made_state k s z =
     by_test (eqb (settings_refusal s) 0)
     (λ e. rw (settings_mirror k s, e, fresh_mirror k s))

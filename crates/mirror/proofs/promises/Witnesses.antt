@@ -17,7 +17,7 @@ use Rattle.window.specs.Window.{fresh_window, taken, mean_at, window_ok}
 use Rattle.record.specs.declared.Loop.{Loop}
 use Rattle.record.specs.Units.{F, fine}
 use Rattle.record.specs.Record.{valid}
-use Rattle.record.specs.Record.{made_of as Loop·madeOf}
+use Rattle.record.specs.Record.{made_of as loop_made_of}
 use Rattle.record.specs.Refusals.{refusal_of}
 use Rattle.pid.specs.Units.{rounded}
 use Rattle.pid.specs.Sample.{lesser, greater, limited, ramped, filtered, derivative, sensed_of, v_of, limited_v, clamped, back_calculated, integrated, acted_of}
@@ -67,7 +67,7 @@ pub cold_oven : flip_settings of_temperatures oven ≡ like (pos 0) (neg_ℤ (po
 cold_oven = refl
 
 pub accepted : ((made_of oven).code ≡ 0) × ((made_of (flip_settings of_action oven)).code ≡ 0) × ((made_of (flip_settings of_temperatures oven)).code ≡ 0)
-unfolding Loop·madeOf in_table rows_of
+unfolding loop_made_of in_table rows_of
 accepted = (refl, refl, refl)
 
 -- ---- what a sample rounds
@@ -193,7 +193,7 @@ pub mirrored :
       played = neg_ℤ (pos 1000) ∷ neg_ℤ (pos 999) ∷ neg_ℤ (pos 7) ∷ [];
       replayed = neg_ℤ (pos 1000) ∷ neg_ℤ (pos 999) ∷ neg_ℤ (pos 7) ∷ [];
     })
-unfolding Loop·madeOf rounded rows_of in_table fresh_window taken mean_at window_ok valid lesser greater limited ramped filtered derivative sensed_of clamped back_calculated integrated acted_of sample_of step_of refusal_of law_of window memory_ok remembered is_last found_in found_by served_of delivered_of after each code_of first_code play_refusal wrote_of numbered replay_refusal written_of
+unfolding loop_made_of rounded rows_of in_table fresh_window taken mean_at window_ok valid lesser greater limited ramped filtered derivative sensed_of clamped back_calculated integrated acted_of sample_of step_of refusal_of law_of window memory_ok remembered is_last found_in found_by served_of delivered_of after each code_of first_code play_refusal wrote_of numbered replay_refusal written_of
 mirrored = (refl, refl, refl)
 
 -- ---- "no value being the least of its type"
