@@ -2,9 +2,12 @@
 #![tactic(auto)]
 
 ghost use Rattle.std.specs.Prelude.{◌≡◌};
+ghost use Rattle.refusal.specs.Refusal.{code_in};
 ghost use Rattle.settings.specs.Settings.{no_gains, blank_settings, ordered, settings_refusal};
 
 pub mod table;
+
+use refusal::Refusal;
 
 // One gain set.
 #[derive(Clone, Copy)]
@@ -103,16 +106,16 @@ impl Settings {
         (self.lo < self.hi) & ((self.lo <= self.out) & (self.out <= self.hi))
     }
 
-    // The code of what is wrong with the settings, 11 before 16; 0 where nothing is.
-    pub fn refusal(self) -> u8
-        ensures { result ≡ settings_refusal self }
+    // What is wrong with the settings, 11 before 16.
+    pub fn check(self) -> Result<(), Refusal>
+        ensures { code_in result ≡ settings_refusal self }
     {
         if !self.in_table() {
-            return 11;
+            return Err(Refusal::SettingOutside);
         }
         if !self.is_ordered() {
-            return 16;
+            return Err(Refusal::Limits);
         }
-        0
+        Ok(())
     }
 }
