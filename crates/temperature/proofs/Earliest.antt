@@ -13,8 +13,7 @@ use lib.Seq.{drop-cons, drop-length}
 use Rattle.whole.proofs.Truth.{by_test, chosen}
 use Rattle.settings.specs.Table.{in_reach}
 use Rattle.temperature.specs.declared.Guard.{Guard}
-use Rattle.temperature.specs.declared.Bad.{Bad}
-use Rattle.temperature.specs.Temperature.{jumps, code_of, past, first_bad, first_code}
+use Rattle.temperature.specs.Temperature.{Bad, jumps, code_of, past, first_bad, first_code}
 
 pub bad_is : {c d p q : ℕ} → c ≡ d → p ≡ q → ◌≡◌ {A = Bad} (record { code = c; place = p }) (record { code = d; place = q })
 bad_is e f = rw (e, f)

@@ -1,10 +1,12 @@
 -- 01, "The law", code 4, and 02, request 8, code 19: which raw temperatures are refused, one by one and in a list.
-use Rattle.std.specs.Prelude.{ℕ, zero, suc, Bool, true, cond, ◌&&◌, ◌||◌, List, [], ◌∷◌, eqb, ℤ, pos, ◌-ℤ◌, get_or}
+use Rattle.std.specs.Prelude.{ℕ, zero, suc, Bool, true, cond, ◌&&◌, ◌||◌, List, [], ◌∷◌, eqb, ℤ, pos, ◌-ℤ◌, get_or, Result, Ok, Err}
 use Rattle.std.specs.Int.Signed.{lt_z}
+use Rattle.std.specs.Bool.{⊤}
 use Rattle.whole.specs.Numbers.{size, eq_z}
+use Rattle.refusal.specs.Refusal.{code_for}
 use Rattle.settings.specs.Table.{in_reach}
 use Rattle.temperature.specs.declared.Guard.{Guard}
-use Rattle.temperature.specs.declared.Bad.{Bad}
+use Rattle.temperature.specs.declared.Bad.{Bad as Earliest}
 
 -- ---- the state rule: "The last kept raw temperature joins the record, within ±1,000,000, and 0 while not primed."
 
@@ -42,9 +44,18 @@ unfoldable pub first_code : Guard → List ℤ → ℕ
 first_code g [] = 0
 first_code g (pv ∷ pvs) = cond (eqb (code_of g pv) 0) (first_code (past g pv) pvs) (code_of g pv)
 
--- "the earliest bad sample is reported with its code and place"
+-- "the earliest bad sample is reported with its code and place"; 0 and the length where none is bad
+pub record Bad : Type 0 where
+  pub code : ℕ
+  pub place : ℕ
+
 abbrev pub bad_of : Guard → List ℤ → Bad
 bad_of g pvs = record { code = first_code g pvs; place = first_bad g pvs }
+
+-- what the code tells of a list of n samples
+abbrev pub bad_told : ℕ → Result ⊤ Earliest → Bad
+bad_told n (Ok _) = record { code = 0; place = n }
+bad_told n (Err e) = record { code = code_for e.refusal; place = e.place }
 
 -- what sample i is held against: the first against what was before them all, and every other against the sample before it
 abbrev pub held_against : Guard → List ℤ → ℕ → Guard

@@ -1,9 +1,11 @@
 // A raw temperature: whether it is taken, and which of a list is the first that is not.
 #![tactic(auto)]
 
-ghost use Rattle.std.specs.Prelude.{◌≡◌};
-ghost use Rattle.temperature.specs.Temperature.{raw_ok, further, jumps, code_of, past, bad_of, raw_after};
+ghost use Rattle.std.specs.Prelude.{◌≡◌, length};
+ghost use Rattle.refusal.specs.Refusal.{code_in};
+ghost use Rattle.temperature.specs.Temperature.{raw_ok, further, jumps, code_of, past, bad_of, bad_told, raw_after};
 
+use refusal::Refusal;
 use settings::Settings;
 
 // What a sample is held against: the loop's mode, whether there was a sample before, how far from that it may be, and "the last
@@ -16,10 +18,10 @@ pub struct Guard {
     pub raw: i32,
 }
 
-// The earliest bad sample of a list: its code and its place. Where none is bad, 0 and the length.
+// The earliest bad sample of a list: why it is refused, and its place.
 #[derive(Clone, Copy)]
 pub struct Bad {
-    pub code: u8,
+    pub refusal: Refusal,
     pub place: usize,
 }
 
@@ -48,17 +50,17 @@ impl Guard {
         self.automatic & self.primed & further(self.jump, self.raw, pv)
     }
 
-    // The code of a sample that is not taken, 4 before 19; 0 where it is.
-    pub fn refusal(self, pv: i32) -> u8
-        ensures { result ≡ code_of self pv }
+    // Whether a sample is taken; why not, 4 before 19.
+    pub fn check(self, pv: i32) -> Result<(), Refusal>
+        ensures { code_in result ≡ code_of self pv }
     {
         if !whole::lies_in(-Settings::REACH, Settings::REACH, pv) {
-            return 4;
+            return Err(Refusal::Temperature);
         }
         if self.jumps(pv) {
-            return 19;
+            return Err(Refusal::Jump);
         }
-        0
+        Ok(())
     }
 
     // What the sample after pv is held against.
@@ -71,21 +73,17 @@ impl Guard {
     }
 
     // "In a replay the test uses the sample before, and the earliest bad sample is reported with its code and place."
-    pub fn first_bad(self, samples: &[i32]) -> Bad
-        ensures { result ≡ bad_of self samples.now }
+    pub fn first_bad(self, samples: &[i32]) -> Result<(), Bad>
+        ensures { bad_told (length samples.now) result ≡ bad_of self samples.now }
     {
         let mut guard = self;
-        let mut i: usize = 0;
-        while i < samples.len() {
-            let pv = samples[i];
-            let code = guard.refusal(pv);
-            if code != 0 {
-                return Bad { code, place: i };
+        for (place, &pv) in samples.iter().enumerate() {
+            if let Err(refusal) = guard.check(pv) {
+                return Err(Bad { refusal, place });
             }
             guard = guard.past(pv);
-            i += 1;
         }
-        Bad { code: 0, place: i }
+        Ok(())
     }
 }
 

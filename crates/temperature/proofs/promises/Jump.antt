@@ -1,4 +1,4 @@
--- 02, request 8, of raw temperatures alone. By their contracts `refusal` answers `code_of g pv`, and `first_bad` the earliest bad
+-- 02, request 8, of raw temperatures alone. By their contracts `check` answers `code_of g pv`, and `first_bad` the earliest bad
 -- sample of a list.
 use Prim.Native.Nat.{ℕ, zero, suc, ◌<◌}
 use mathlib.Core.Path.{◌≡◌, refl, sym, ap, ◌∙◌}
@@ -11,8 +11,7 @@ use lib.IntN.{ℤ, pos, negsuc}
 use lib.ListN.{length, get_or}
 use Rattle.whole.proofs.Truth.{and, by_test}
 use Rattle.temperature.specs.declared.Guard.{Guard}
-use Rattle.temperature.specs.declared.Bad.{Bad}
-use Rattle.temperature.specs.Temperature.{raw_ok, code_of, past, first_bad, first_code, bad_of, held_against}
+use Rattle.temperature.specs.Temperature.{Bad, raw_ok, code_of, past, first_bad, first_code, bad_of, held_against}
 use Rattle.temperature.proofs.Earliest.{bad_on, bad_first, code_none}
 use Rattle.temperature.proofs.Ranged.{taken_reach}
 

@@ -4,8 +4,8 @@ use mir.Facts.{to_z-of_z}
 use Rattle.whole.proofs.Truth.{so}
 use Rattle.settings.specs.Table.{in_reach}
 use Rattle.temperature.specs.Temperature.{code_of}
-use Rattle.temperature.proofs.Guard.refusal.Goals as goal
-use Rattle.temperature.proofs.Guard.refusal.Goals.{Else-not-lies_in}
+use Rattle.temperature.proofs.Guard.check.Goals as goal
+use Rattle.temperature.proofs.Guard.check.Goals.{Else-not-lies_in}
 
 pv_in_reach : (c : Else-not-lies_in) → in_reach c.args.pv ≡ true
 pv_in_reach c = rw (to_z-of_z c.ranges.pv) at (so c.lies_in.ensures c.if-not-lies_in.false)
