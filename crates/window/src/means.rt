@@ -2,7 +2,7 @@
 ghost use Rattle.std.specs.Prelude.{◌≡◌, true, [], ◌+◌, ◌<◌, ◌≤◌, min, length, get_or, take, drop, pos};
 ghost use Rattle.std.proofs.lemmas.List.Edits.{sets};
 ghost use Rattle.settings.specs.Table.{window};
-ghost use Rattle.temperature.specs.Temperature.{ranged, bad_of};
+ghost use Rattle.temperature.specs.Temperature.{ranged, bad_of, bad_told};
 ghost use Rattle.window.specs.Means.{past_of, after_all, means_of, front_filled, means_into};
 ghost use Rattle.window.specs.Bounds.{Bits, summed_of};
 ghost use Rattle.window.specs.Running.{onto, counted_on, means_at};
@@ -130,20 +130,16 @@ impl Window {
 
     // Codes 4 and 19 test the raw ones: the earliest bad sample. Where none is bad, the mean after each is put in the front of a
     // list that has room for them.
-    pub fn means(self, m: usize, guard: Guard, samples: &[i32], out: &mut [i32]) -> Bad
-        ensures value { result ≡ bad_of guard samples.now }
+    pub fn means(self, m: usize, guard: Guard, samples: &[i32], out: &mut [i32]) -> Result<(), Bad>
+        ensures value { bad_told (length samples.now) result ≡ bad_of guard samples.now }
         ensures out_after { out.new ≡ means_into m self guard samples.now out.old }
     {
-        let bad = guard.first_bad(samples);
-        let code = bad.code;
-        if code != 0 {
-            return bad;
-        }
+        guard.first_bad(samples)?;
         if out.len() < samples.len() {
-            return bad;
+            return Ok(());
         }
         self.put_means(m, samples, out);
-        bad
+        Ok(())
     }
 
     // The window after every sample, each place filled once.
