@@ -66,14 +66,14 @@ row_set i l h =
 
 -- the number of the set and the `=`, put after the letters one after the other
 pub numbered_is : (r : Row) (k n : ℕ) {k₁ k₂ : List ℕ} {a b : ℤ} → n ≡ length (shown k) →
-    k₁ ≡ puts r.0 r.1 (shown k) → k₂ ≡ puts k₁ (r.1 + n) (bytes "=") → a ≡ r.2 → b ≡ r.3 →
-    record { 0 = k₂; 1 = r.1 + n + 1; 2 = a; 3 = b } ≡ numbered r k
-numbered_is r k n e p q f g = rw (q, p, e, f, g, sets_append r.0 r.1 (shown k) (bytes "="), add_assoc r.1 (length (shown k)) 1)
+    k₁ ≡ puts r.key r.len (shown k) → k₂ ≡ puts k₁ (r.len + n) (bytes "=") → a ≡ r.least → b ≡ r.most →
+    record { key = k₂; len = r.len + n + 1; least = a; most = b } ≡ numbered r k
+numbered_is r k n e p q f g = rw (q, p, e, f, g, sets_append r.key r.len (shown k) (bytes "="), add_assoc r.len (length (shown k)) 1)
 
 -- a key of the table has at most so many bytes
-pub kind_short : (j : ℕ) → (get_or table j no_row).1 ≤ longest_key
+pub kind_short : (j : ℕ) → (get_or table j no_row).len ≤ longest_key
 unfolding table no_row
-kind_short j = leb-true (get_or table j no_row).1 longest_key (all_at (λ r. leb r.1 longest_key) no_row table refl refl j)
+kind_short j = leb-true (get_or table j no_row).len longest_key (all_at (λ r. leb r.len longest_key) no_row table refl refl j)
 
 -- ---- values by place
 

@@ -1,5 +1,6 @@
 -- 01, "Units" and "Settings text", with 02's requests 5, 7 and 8: the settings' keys, their order and their ranges.
-use Rattle.std.specs.Prelude.{ℕ, zero, suc, ◌+◌, ◌-◌, ◌*◌, Bool, cond, List, [], ◌∷◌, ◌++◌, map, ltb, length, take, drop, replicate, ℤ, pos, neg_ℤ}
+use Rattle.std.specs.Prelude.{ℕ, zero, suc, ◌+◌, ◌-◌, ◌*◌, Bool, cond, List, [], ◌∷◌, ◌++◌, map, ltb, length, take, drop, replicate, get_or, ℤ, pos, neg_ℤ}
+use denote.Ref.{Bor}
 use Prim.Native.String.{String}
 use Rattle.std.proofs.lemmas.List.Edits.{sets as puts}
 use Rattle.whole.specs.Numbers.{inside}
@@ -43,17 +44,27 @@ abbrev pub longest_key : ℕ
 longest_key = 8
 
 -- a key at the front of so many bytes, how many bytes it has, and the least and the most of the value
-abbrev pub row : String → ℤ → ℤ → Row
-row key least most = record {
-  0 = bytes key ++ replicate (longest_key - length (bytes key)) 0;
-  1 = length (bytes key);
-  2 = least;
-  3 = most;
+abbrev pub keyed : List ℕ → ℤ → ℤ → Row
+keyed letters least most = record {
+  key = puts (replicate longest_key 0) 0 letters;
+  len = length letters;
+  least = least;
+  most = most;
 }
+
+abbrev pub row : String → ℤ → ℤ → Row
+row key least most = keyed (bytes key) least most
 
 -- what stands past the table's end
 unfoldable pub no_row : Row
 no_row = row "" (pos 0) (pos 0)
+
+-- a key with its range, and the row of place j in a list of them
+abbrev pub row_of : Bor (List ℕ) × ℤ × ℤ → Row
+row_of kind = keyed kind.0.now kind.1 kind.2
+
+unfoldable pub row_at : List (Bor (List ℕ) × ℤ × ℤ) → ℕ → Row
+row_at kinds j = get_or (map row_of kinds) j no_row
 
 -- "action, lo, hi, out, sp, rate", which every text has
 abbrev pub first_rows : List Row
@@ -118,10 +129,10 @@ lines = lines_for heads sets
 -- the row in gain set k: the set's number and `=` are put after its letters
 abbrev pub numbered : Row → ℕ → Row
 numbered r k = record {
-  0 = puts r.0 r.1 (shown k ++ bytes "=");
-  1 = r.1 + (length (shown k) + 1);
-  2 = r.2;
-  3 = r.3;
+  key = puts r.key r.len (shown k ++ bytes "=");
+  len = r.len + (length (shown k) + 1);
+  least = r.least;
+  most = r.most;
 }
 
 -- "kp0 ki0 kd0 alpha0 kt0", with k in the place of 0
@@ -153,7 +164,11 @@ picked h xs = take h xs ++ drop heads xs
 abbrev pub place_of : ℕ → ℕ → ℕ
 place_of h i = cond (ltb i h) i (i + (heads - h))
 
+-- the bytes of a row's key, with its `=`
+abbrev pub key_of : Row → List ℕ
+key_of r = take r.len r.key
+
 -- ---- a value within its range
 
 abbrev pub in_row : Row → ℤ → Bool
-in_row r z = inside r.2 r.3 z
+in_row r z = inside r.least r.most z

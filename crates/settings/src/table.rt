@@ -1,6 +1,6 @@
 // The one table of the settings' keys and ranges, and whether settings lie within it.
-ghost use Rattle.std.specs.Prelude.{◌≡◌, ◌+◌, ◌<◌, ◌≤◌, get_or};
-ghost use Rattle.settings.specs.Table.{longest_key, head_rows, gain_rows, table, sets, heads, keys, numbered, rows, no_row, in_row};
+ghost use Rattle.std.specs.Prelude.{◌≡◌, ◌+◌, ◌<◌, ◌≤◌, get_or, length};
+ghost use Rattle.settings.specs.Table.{longest_key, row_of, row_at, head_rows, gain_rows, table, sets, heads, keys, numbered, rows, no_row, key_of, in_row};
 ghost use Rattle.settings.specs.Settings.{gain_values, head_values, all_in, in_table};
 
 use crate::{Gains, Settings};
@@ -8,48 +8,82 @@ use word::buffer::{put, put_unsigned};
 
 // A settings key, how many bytes it has, and the least and the most of the value.
 #[derive(Clone, Copy)]
-pub struct Row(pub [u8; Row::LONGEST], pub usize, pub i32, pub i32);
+pub struct Row {
+    key: [u8; Row::LONGEST],
+    len: usize,
+    least: i32,
+    most: i32,
+}
 
-// "The ranges of the settings are one constant table of rows, which reader, writer and maker all consult." The first have
-// their `=`. The last five stand in each gain set: its number and the `=` are put after their letters.
-const ROWS: [Row; Settings::HEAD + Settings::KEYS] = [
-    Row(*b"action=\0", 7, 0, 1),
-    Row(*b"lo=\0\0\0\0\0", 3, -Settings::REACH, Settings::REACH),
-    Row(*b"hi=\0\0\0\0\0", 3, -Settings::REACH, Settings::REACH),
-    Row(*b"out=\0\0\0\0", 4, -Settings::REACH, Settings::REACH),
-    Row(*b"sp=\0\0\0\0\0", 3, -Settings::REACH, Settings::REACH),
-    Row(*b"rate=\0\0\0", 5, 1, Settings::FASTEST),
-    Row(*b"mean=\0\0\0", 5, 1, Settings::WINDOW as i32),
-    Row(*b"jump=\0\0\0", 5, 1, Settings::FARTHEST),
-    Row(*b"kp\0\0\0\0\0\0", 2, 0, Settings::GAIN),
-    Row(*b"ki\0\0\0\0\0\0", 2, 0, Settings::GAIN),
-    Row(*b"kd\0\0\0\0\0\0", 2, 0, Settings::GAIN),
-    Row(*b"alpha\0\0\0", 5, 1, Settings::SHARE),
-    Row(*b"kt\0\0\0\0\0\0", 2, 0, Settings::SHARE),
+// "The ranges of the settings are one constant table of rows, which reader, writer and maker all consult": a key, and the least and
+// the most of its value. The first have their `=`. The last five stand in each gain set: its number and the `=` are put after
+// their letters.
+const KINDS: [(&[u8], i32, i32); Settings::HEAD + Settings::KEYS] = [
+    (b"action=", 0, 1),
+    (b"lo=", -Settings::REACH, Settings::REACH),
+    (b"hi=", -Settings::REACH, Settings::REACH),
+    (b"out=", -Settings::REACH, Settings::REACH),
+    (b"sp=", -Settings::REACH, Settings::REACH),
+    (b"rate=", 1, Settings::FASTEST),
+    (b"mean=", 1, Settings::WINDOW as i32),
+    (b"jump=", 1, Settings::FARTHEST),
+    (b"kp", 0, Settings::GAIN),
+    (b"ki", 0, Settings::GAIN),
+    (b"kd", 0, Settings::GAIN),
+    (b"alpha", 1, Settings::SHARE),
+    (b"kt", 0, Settings::SHARE),
 ];
 
 impl Row {
     // The most bytes of a key with its `=`.
     pub const LONGEST: usize = 8;
 
+    // The row of a key and its range.
+    fn of(kind: (&[u8], i32, i32)) -> Row
+        ensures { result ≡ row_of kind.entry }
+    {
+        let (letters, least, most) = kind;
+        let mut key = [0; Row::LONGEST];
+        put(&mut key, 0, letters);
+        Row {
+            key,
+            len: letters.len(),
+            least,
+            most,
+        }
+    }
+
+    // Row j of a table.
+    fn nth(kinds: &[(&[u8], i32, i32)], j: usize) -> Row
+        requires { j < length kinds.now }
+        ensures { result ≡ row_at kinds.now j }
+    {
+        Row::of(kinds[j])
+    }
+
     // Row j of the constant table.
     fn kind(j: usize) -> Row
         requires { j < heads + keys }
         ensures { result ≡ get_or table j no_row }
     {
-        ROWS[j]
+        Row::nth(&KINDS, j)
     }
 
     // The row in gain set k.
     fn numbered(self, k: usize) -> Row
-        requires { (self.1 ≤ longest_key) × (k < sets) }
+        requires { (self.len ≤ longest_key) × (k < sets) }
         ensures { result ≡ numbered self k }
     {
-        let mut key = self.0;
-        let n = self.1;
+        let mut key = self.key;
+        let n = self.len;
         let end = n + put_unsigned(&mut key, n, k as u32);
         put(&mut key, end, b"=");
-        Row(key, end + 1, self.2, self.3)
+        Row {
+            key,
+            len: end + 1,
+            least: self.least,
+            most: self.most,
+        }
     }
 
     // The row of line i of a text that leaves none out, counted from 0; past the last, a row without a key.
@@ -63,14 +97,26 @@ impl Row {
             let kind = Row::kind(Settings::HEAD + (i - Settings::HEAD) % Settings::KEYS);
             return kind.numbered((i - Settings::HEAD) / Settings::KEYS);
         }
-        Row([0; Row::LONGEST], 0, 0, 0)
+        Row {
+            key: [0; Row::LONGEST],
+            len: 0,
+            least: 0,
+            most: 0,
+        }
+    }
+
+    // The bytes of the key, with its `=`.
+    pub fn key(&self) -> &[u8]
+        ensures { result.now ≡ key_of self.now }
+    {
+        &self.key[..self.len.min(Row::LONGEST)]
     }
 
     // Whether x lies within the row's range.
     pub fn holds(self, x: i32) -> bool
         ensures { result ≡ in_row self x }
     {
-        (self.2 <= x) & (x <= self.3)
+        (self.least <= x) & (x <= self.most)
     }
 
     // Whether x lies within the range of row j of the constant table.
