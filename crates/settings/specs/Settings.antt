@@ -5,7 +5,7 @@ use Rattle.whole.specs.Numbers.{inside}
 use Rattle.settings.specs.declared.table.Row.{Row}
 use Rattle.settings.specs.declared.Gains.{Gains}
 use Rattle.settings.specs.declared.Settings.{Settings}
-use Rattle.settings.specs.Table.{farthest, sets, firsts, heads, keys, lines_for, lines, each, rows, in_row}
+use Rattle.settings.specs.Table.{farthest, sets, firsts, heads, keys, lines_for, lines, each, rows, table, no_row, in_row}
 
 -- ---- the values in the order of the rows
 
@@ -94,6 +94,11 @@ abbrev pub all_in : List Row → List ℤ → Bool
 all_in [] vs = true
 all_in (r ∷ rs) [] = false
 all_in (r ∷ rs) (z ∷ vs) = in_row r z && all_in rs vs
+
+-- each value within the range of its row, where the rows begin at place j of the table
+abbrev pub held_from : ℕ → List ℤ → Bool
+held_from j [] = true
+held_from j (z ∷ vs) = in_row (get_or table j no_row) z && held_from (j + 1) vs
 
 -- no "value outside its own range" (code 11)
 unfoldable pub in_table : Settings → Bool

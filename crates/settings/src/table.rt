@@ -1,7 +1,7 @@
 // The one table of the settings' keys and ranges, and whether settings lie within it.
 ghost use Rattle.std.specs.Prelude.{◌≡◌, ◌+◌, ◌<◌, ◌≤◌, get_or, length};
 ghost use Rattle.settings.specs.Table.{longest_key, row_of, row_at, head_rows, gain_rows, table, sets, heads, keys, numbered, rows, no_row, key_of, in_row};
-ghost use Rattle.settings.specs.Settings.{gain_values, head_values, all_in, in_table};
+ghost use Rattle.settings.specs.Settings.{gain_values, head_values, all_in, held_from, in_table};
 
 use crate::{Gains, Settings};
 use word::buffer::{put, put_unsigned};
@@ -119,57 +119,64 @@ impl Row {
         (self.least <= x) & (x <= self.most)
     }
 
-    // Whether x lies within the range of row j of the constant table.
-    fn takes(j: usize, x: i32) -> bool
-        requires { j < heads + keys }
-        ensures { result ≡ in_row (get_or table j no_row) x }
+    // Whether each of these values lies within the range of its row, where the first row is row `from` of the constant table.
+    fn hold(from: usize, values: &[i32]) -> bool
+        requires { from + length values.now ≤ heads + keys }
+        ensures { result ≡ held_from from values.now }
     {
-        Row::kind(j).holds(x)
+        for (i, x) in values.iter().enumerate() {
+            if !Row::kind(from + i).holds(*x) {
+                return false;
+            }
+        }
+        true
     }
 }
 
 impl Gains {
-    // Whether each value of the set lies within its own range.
+    // The values of the set, in the order of the rows.
+    pub fn values(self) -> [i32; Settings::KEYS]
+        ensures { result ≡ gain_values self }
+    {
+        [self.kp, self.ki, self.kd, self.alpha, self.kt]
+    }
+
+    // Whether each of them lies within its own range.
     fn in_table(self) -> bool
         ensures { result ≡ all_in gain_rows (gain_values self) }
     {
-        Row::takes(Settings::HEAD, self.kp)
-            & (Row::takes(Settings::HEAD + 1, self.ki)
-                & (Row::takes(Settings::HEAD + 2, self.kd)
-                    & (Row::takes(Settings::HEAD + 3, self.alpha)
-                        & Row::takes(Settings::HEAD + 4, self.kt))))
+        Row::hold(Settings::HEAD, &self.values())
     }
 }
 
 impl Settings {
-    // Whether each value before the gain sets' lies within its own range.
-    fn head_in_table(self) -> bool
-        ensures { result ≡ all_in head_rows (head_values self) }
+    // The values before the gain sets', in the order of the rows.
+    pub fn head(self) -> [i32; Settings::HEAD]
+        ensures { result ≡ head_values self }
     {
-        Row::takes(0, self.action)
-            & (Row::takes(1, self.lo)
-                & (Row::takes(2, self.hi)
-                    & (Row::takes(3, self.out)
-                        & (Row::takes(4, self.sp)
-                            & (Row::takes(5, self.rate)
-                                & (Row::takes(6, self.mean) & Row::takes(7, self.jump)))))))
+        [
+            self.action,
+            self.lo,
+            self.hi,
+            self.out,
+            self.sp,
+            self.rate,
+            self.mean,
+            self.jump,
+        ]
     }
 
     // Whether each value lies within its own range.
     pub fn in_table(self) -> bool
         ensures { result ≡ in_table self }
     {
-        if !self.head_in_table() {
+        if !Row::hold(0, &self.head()) {
             return false;
         }
-        let all = self.gains;
-        let mut k: usize = 0;
-        while k < Settings::SETS {
-            let set = all[k];
+        for set in &self.gains {
             if !set.in_table() {
                 return false;
             }
-            k += 1;
         }
         true
     }
