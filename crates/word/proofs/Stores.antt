@@ -1,11 +1,11 @@
 -- Laws of bytes that are put into a buffer: `sets buffer at bytes`, which passes over places that are not there.
-use Prim.Native.Nat.{ℕ, zero, suc, ◌+◌, ◌-◌, ◌<◌, ◌≤◌}
+use Prim.Native.Nat.{ℕ, zero, suc, ◌+◌, ◌-◌, ◌<◌, ◌≤◌, min}
 use mathlib.Core.Path.{◌≡◌, refl, sym, ap, ap₂, ◌∙◌}
-use mathlib.Core.List.{List, [], ◌∷◌, ◌++◌, append-nil}
+use mathlib.Core.List.{List, [], ◌∷◌, ◌++◌, append-nil, append_assoc}
 use native.Mathlib.Nat.{add-zero, add-suc, suc-add}
 use native.Mathlib.Numerals.{add-one}
 use native.Mathlib.Omega.{arith}
-use lib.ListN.{length, take, drop, set, get_or, length-append}
+use lib.ListN.{length, take, drop, set, length-append, length-take, length-set}
 use lib.Seq.{sets, sets-eq, set_out, take_at, drop-length}
 use borrow.Rule.Slice.PartMut.{post_of, put_mid, Post-is}
 use Rattle.whole.proofs.Lists.{next, part_left}
@@ -21,11 +21,25 @@ sets_out l i [] h = refl
 sets_out l i (v ∷ vs) h =
     ap (λ (s : List ℕ). sets s (suc i) vs) (set_out l i v h) ∙ sets_out l (suc i) vs (omega arith)
 
--- one more byte
-pub sets_next : (l : List ℕ) (k : ℕ) (bytes : List ℕ) (j : ℕ) → j < length bytes →
-    sets l k (drop j bytes) ≡ sets (set l k (get_or bytes j 0)) (k + 1) (drop (j + 1) bytes)
-sets_next l k bytes j h =
-    ap (sets l k) (next bytes j 0 h) ∙ ap (λ (n : ℕ). sets (set l k (get_or bytes j 0)) n (drop (j + 1) bytes)) (sym (add-one k))
+-- of bytes that reach past the end only those before it are stored
+pub sets_front : (l : List ℕ) (at : ℕ) (bytes : List ℕ) (k : ℕ) → k ≤ length bytes → (k < length bytes → length l ≤ at + k) →
+    sets l at bytes ≡ sets l at (take k bytes)
+sets_front l at [] zero h past = refl
+sets_front l at [] (suc k) h past = refl
+sets_front l at (b ∷ bytes) zero h past = sets_out l at (b ∷ bytes) (omega (arith, past))
+sets_front l at (b ∷ bytes) (suc k) h past =
+    sets_front (set l at b) (suc at) bytes k (omega arith) (λ less. omega (arith, past (omega arith), length-set l at b))
+
+-- a part of a buffer up to j, as many bytes as are stored, once it is back
+pub part_stored : (l : List ℕ) (at j : ℕ) (bytes part : List ℕ) → at ≤ length l → j ≡ at + min (length bytes) (length l - at) →
+    part ≡ take (j - at) bytes → put_mid at (j - at) l part ≡ sets l at bytes
+part_stored l at j bytes part h e p =
+    let k = j - at in
+    let long : length (take k bytes) ≡ k = length-take k bytes ∙ omega arith in
+    let end : at + length (take k bytes) ≡ j = omega arith in
+    ap₂ (λ (s t : List ℕ). take at l ++ (s ++ t)) p (Post-is at j l (omega arith) ∙ ap (λ (n : ℕ). drop n l) (sym end))
+    ∙ sym (append_assoc (take at l) (take k bytes) (drop (at + length (take k bytes)) l))
+    ∙ sym (sets_front l at bytes k (omega arith) (λ less. omega arith) ∙ sets-eq (take k bytes) l at (omega arith))
 
 -- what is left to put once its first part is put
 pub rest_stored : {all l₁ : List ℕ} {next : ℕ} (l₀ : List ℕ) (at : ℕ) (first rest : List ℕ) →

@@ -1,8 +1,6 @@
 -- 01, "Settings text": "A value is an optional minus and 1 to 7 digits, no leading zero except the number 0 itself, no
 -- minus zero." Texts are lists of bytes.
-use Rattle.std.specs.Prelude.{ℕ, zero, suc, ◌+◌, ◌-◌, ◌*◌, ◌/◌, ◌%◌, Bool, true, cond, not, ◌&&◌, List, [], ◌∷◌, ◌++◌, ltb, leb, eqb, ℤ, pos, negsuc, neg_ℤ, length, get_or, drop, replicate}
-use Rattle.word.specs.declared.decimal.Decimal.{Decimal}
-use Rattle.word.specs.declared.decimal.Decimal.TheVariants.{Is, Wrong}
+use Rattle.std.specs.Prelude.{ℕ, zero, suc, ◌+◌, ◌-◌, ◌*◌, ◌/◌, ◌%◌, Bool, true, cond, not, ◌&&◌, List, [], ◌∷◌, ◌++◌, ltb, leb, eqb, ℤ, pos, negsuc, neg_ℤ, length, get_or, drop, replicate, Option, Some, None}
 use Rattle.word.specs.declared.decimal.Shown.{Shown}
 
 -- ---- a decimal that is read
@@ -60,8 +58,8 @@ unfoldable pub number_of : List ℕ → ℤ
 number_of w = cond (has_minus w) (neg_ℤ (pos (size_of (unsigned w)))) (pos (size_of (unsigned w)))
 
 -- what reading a word answers
-abbrev pub decimal_of : List ℕ → Decimal
-decimal_of w = cond (is_decimal w) (Is (number_of w)) Wrong
+abbrev pub decimal_of : List ℕ → Option ℤ
+decimal_of w = cond (is_decimal w) (Some (number_of w)) None
 
 -- ---- a decimal of up to so many digits, "within 32 bits"
 
@@ -70,18 +68,18 @@ abbrev pub lowest : ℕ
 lowest = 2147483648
 
 -- with a minus: "no minus zero"
-abbrev pub negative_in : ℕ → Decimal
-negative_in n = cond (eqb n 0) Wrong (cond (ltb lowest n) Wrong (Is (neg_ℤ (pos n))))
+abbrev pub negative_in : ℕ → Option ℤ
+negative_in n = cond (eqb n 0) None (cond (ltb lowest n) None (Some (neg_ℤ (pos n))))
 
-abbrev pub positive_in : ℕ → Decimal
-positive_in n = cond (leb lowest n) Wrong (Is (pos n))
+abbrev pub positive_in : ℕ → Option ℤ
+positive_in n = cond (leb lowest n) None (Some (pos n))
 
 -- "an optional minus", then digits
-unfoldable pub signed_of : ℕ → List ℕ → Decimal
+unfoldable pub signed_of : ℕ → List ℕ → Option ℤ
 signed_of most w =
     cond (is_size most (unsigned w))
     (cond (has_minus w) (negative_in (size_of (unsigned w))) (positive_in (size_of (unsigned w))))
-    Wrong
+    None
 
 -- ---- a decimal that is written
 

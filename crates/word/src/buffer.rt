@@ -9,16 +9,11 @@ use crate::decimal::{Shown, digits_of};
 pub fn put(buffer: &mut [u8], at: usize, bytes: &[u8])
     ensures { buffer.new ≡ sets buffer.old at bytes.now }
 {
-    let mut k = at;
-    let mut j: usize = 0;
-    while j < bytes.len() {
-        if buffer.len() <= k {
-            return;
-        }
-        buffer[k] = bytes[j];
-        k += 1;
-        j += 1;
+    if buffer.len() <= at {
+        return;
     }
+    let end = at + bytes.len().min(buffer.len() - at);
+    buffer[at..end].copy_from_slice(&bytes[..end - at]);
 }
 
 // Puts what is shown from place at on, and answers how many bytes that is.

@@ -1,71 +1,39 @@
 // One decimal, as the settings and the sample file have it: "an optional minus and 1 to 7 digits, no leading zero except
 // the number 0 itself, no minus zero".
-ghost use Rattle.std.specs.Prelude.{◌≡◌, cond, ◌<◌, ◌≤◌, pos, neg_ℤ, nat_abs};
-ghost use Rattle.word.specs.declared.decimal.Size.TheVariants.{Is, Wrong};
-ghost use Rattle.word.specs.Decimal.{long_digits, is_size, has_minus, unsigned, size_of, lowest, signed_of, decimal_of, shown, decimal, padded};
+ghost use Rattle.std.specs.Prelude.{◌≡◌, cond, ◌<◌, ◌≤◌, pos, neg_ℤ, Some, None};
+ghost use Rattle.word.specs.Decimal.{long_digits, is_size, size_of, lowest, signed_of, decimal_of, shown, decimal, padded};
 
-// What a word is: the number that it stands for, or no decimal.
-#[derive(Clone, Copy)]
-pub enum Decimal {
-    Is(i32),
-    Wrong,
-}
+// "1 to 7 digits".
+const DIGITS: usize = 7;
 
-// What digits are: the number that they make, or no number.
-#[derive(Clone, Copy)]
-pub(crate) enum Size {
-    Is(u64),
-    Wrong,
-}
+// The lowest number of 32 bits, its sign left aside.
+const LOWEST: u64 = 2_147_483_648;
 
-// What 1 to so many digits are, "no leading zero except the number 0 itself", in one pass. Their count is tested before it:
+// What 1 to so many digits make, "no leading zero except the number 0 itself", in one pass. Their count is tested before it:
 // a word of any length is answered, and the number never leaves its type.
-pub(crate) fn size_of(word: &[u8], most: usize) -> Size
+pub(crate) fn size_of(word: &[u8], most: usize) -> Option<u64>
     requires { most ≤ long_digits }
-    ensures { result ≡ cond (is_size most word.now) (Is (size_of word.now)) Wrong }
+    ensures { result ≡ cond (is_size most word.now) (Some (size_of word.now)) None }
 {
     let length = word.len();
     if length < 1 {
-        return Size::Wrong;
+        return None;
     }
     if most < length {
-        return Size::Wrong;
+        return None;
     }
     let leading_zero = (word[0] == b'0') & (1 < length);
     if leading_zero {
-        return Size::Wrong;
+        return None;
     }
     let mut n: u64 = 0;
-    let mut i: usize = 0;
-    while i < length {
-        let b = word[i];
-        let digit = (b'0' <= b) & (b <= b'9');
-        if !digit {
-            return Size::Wrong;
+    for byte in word {
+        if !byte.is_ascii_digit() {
+            return None;
         }
-        n = n * 10 + (b - b'0') as u64;
-        i += 1;
+        n = n * 10 + u64::from(*byte - b'0');
     }
-    Size::Is(n)
-}
-
-fn has_minus(word: &[u8]) -> bool
-    ensures { result ≡ has_minus word.now }
-{
-    if word.len() < 1 {
-        return false;
-    }
-    word[0] == b'-'
-}
-
-// What stands after the minus, if there is one.
-fn unsigned(word: &[u8]) -> &[u8]
-    ensures { result.now ≡ unsigned word.now }
-{
-    if has_minus(word) {
-        return &word[1..];
-    }
-    word
+    Some(n)
 }
 
 fn negated(n: u64) -> i32
@@ -76,41 +44,28 @@ fn negated(n: u64) -> i32
 }
 
 // A decimal of at most so many digits, within 32 bits.
-pub(crate) fn signed_of(word: &[u8], most: usize) -> Decimal
+pub(crate) fn signed_of(word: &[u8], most: usize) -> Option<i32>
     requires { most ≤ long_digits }
     ensures { result ≡ signed_of most word.now }
 {
-    let Size::Is(n) = size_of(unsigned(word), most) else {
-        return Decimal::Wrong;
+    let Some(digits) = word.strip_prefix(b"-") else {
+        return i32::try_from(size_of(word, most)?).ok();
     };
-    if has_minus(word) {
-        if n == 0 {
-            return Decimal::Wrong;
-        }
-        if Decimal::LOWEST < n {
-            return Decimal::Wrong;
-        }
-        return Decimal::Is(negated(n));
+    let n = size_of(digits, most)?;
+    if n == 0 {
+        return None;
     }
-    if Decimal::LOWEST <= n {
-        return Decimal::Wrong;
+    if LOWEST < n {
+        return None;
     }
-    Decimal::Is(n as i32)
+    Some(negated(n))
 }
 
-impl Decimal {
-    // "1 to 7 digits".
-    const DIGITS: usize = 7;
-
-    // The lowest number of 32 bits, its sign left aside.
-    const LOWEST: u64 = 2_147_483_648;
-
-    // What a word is; a line feed would be no part of one.
-    pub fn of(word: &[u8]) -> Decimal
-        ensures { result ≡ decimal_of word.now }
-    {
-        signed_of(word, Decimal::DIGITS)
-    }
+// The number that a word is, if it is a decimal; a line feed would be no part of one.
+pub fn read_decimal(word: &[u8]) -> Option<i32>
+    ensures { result ≡ decimal_of word.now }
+{
+    signed_of(word, DIGITS)
 }
 
 // A text of at most eleven bytes, which stands at their end; from is the place of its first byte.
@@ -118,16 +73,6 @@ impl Decimal {
 pub struct Shown {
     pub bytes: [u8; Shown::ROOM],
     pub from: usize,
-}
-
-// How large x is, its sign left aside.
-fn magnitude(x: i32) -> u32
-    ensures { result ≡ nat_abs x }
-{
-    if x < 0 {
-        return (-(x as i64)) as u32;
-    }
-    x as u32
 }
 
 pub(crate) fn digits_of(n: u32) -> Shown
@@ -155,7 +100,7 @@ impl Shown {
     pub fn of(x: i32) -> Shown
         ensures { result ≡ padded (decimal x) }
     {
-        let digits = digits_of(magnitude(x));
+        let digits = digits_of(x.unsigned_abs());
         if x < 0 {
             let mut bytes = digits.bytes;
             let from = digits.from - 1;

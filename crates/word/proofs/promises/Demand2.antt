@@ -6,7 +6,7 @@ use mathlib.Core.Bool.{true}
 use mathlib.Core.List.{List}
 use mathlib.Core.Logic.{◌↔◌}
 use lib.IntN.{ℤ, nat_abs}
-use Rattle.word.specs.declared.decimal.Decimal.TheVariants.{Is}
+use Rattle.std.specs.Prelude.{Some}
 use Rattle.word.specs.Decimal.{is_decimal, number_of, decimal_of, decimal}
 use Rattle.word.proofs.Decimals.{decimal_read, read_decimal}
 
@@ -18,5 +18,5 @@ decimal_exactly w = (
 )
 
 -- And it is read as that number.
-pub decimal_back : (z : ℤ) → nat_abs z < 10 ^ 7 → decimal_of (decimal z) ≡ Is z
+pub decimal_back : (z : ℤ) → nat_abs z < 10 ^ 7 → decimal_of (decimal z) ≡ Some z
 decimal_back z h = let r = decimal_read z h in rw (r.form, r.number)

@@ -1,53 +1,68 @@
-use Prim.Native.Nat.{ℕ, ◌<◌}
+use Prim.Native.Nat.{ℕ, ◌<◌, ◌^◌}
 use mathlib.Core.Path.{◌≡◌, sym, ap, ◌∙◌}
-use mathlib.Core.Bool.{cond}
-use mathlib.Core.List.{List}
-use Rattle.word.specs.declared.decimal.Size.{Size}
+use mathlib.Core.Bool.{true, false, cond}
+use mathlib.Core.List.{List, [], ◌∷◌}
 use native.Mathlib.Omega.{arith}
 use borrow.Author.Tests.{eq-eqb, ne_eqb, lt-ltb, le-ltb, le-leb, lt-leb}
+use borrow.Author.Rules.{rules}
+use lib.Dec.{eqb}
+use lib.IntN.{ℤ, pos}
+use lib.ListN.{take, drop}
+use lib.Pointwise.{pointwise}
 use mir.Syntax.{w32}
 use mir.Val.{SFits}
-use mir.Facts.{to_z-of_z, to_z_pos}
-use Rattle.whole.proofs.Truth.{so, cond_yes, cond_no}
-use Rattle.word.specs.declared.decimal.Decimal.TheVariants.{Is, Wrong}
+use mir.Facts.{to_z-of_z}
+use Rattle.std.specs.Prelude.{Option, Some, None, Result, Ok, Err}
+use Rattle.std.specs.Result.{OkIff, result_ok}
+use Rattle.whole.proofs.Truth.{cond_yes, cond_no, by_test}
 use Rattle.word.specs.Decimal.{has_minus, unsigned, lowest, negative_in, positive_in, signed_of}
-use Rattle.word.proofs.Digits.{size_in, made, made_of}
-use borrow.Author.Rules.{rules}
+use Rattle.word.proofs.Digits.{size_in, made, made_of, starts_minus}
 use Rattle.word.proofs.decimal.signed_of.Goals as goal
-use Rattle.word.proofs.decimal.signed_of.Goals.{Else-has_minus, Then-has_minus}
 
--- the answer, said of what the digits are
-told : (most : ℕ) (w : List ℕ) {u : List ℕ} {s : Size} → s ≡ size_in most u → u ≡ unsigned w →
-    signed_of most w ≡ made (λ (n : ℕ). cond (has_minus w) (negative_in n) (positive_in n)) Wrong s
-unfolding signed_of
-told most w e f = made_of _ Wrong most (unsigned w) (e ∙ ap (size_in most) f)
+-- the answer, said of what the digits are: without a minus, and with one
+plain : (most : ℕ) (w : List ℕ) {s : Option ℕ} → pointwise eqb (take 1 w) (45 ∷ []) ≡ false → s ≡ size_in most w → signed_of most w ≡ made positive_in None s
+unfolding signed_of unsigned
+plain most w m e =
+    let h : has_minus w ≡ false = sym (starts_minus w) ∙ m in
+    rw h (made_of positive_in None most w e)
 
--- with a minus, and without
-minus : (c : Then-has_minus) → signed_of c.args.most c.args.word.now ≡ negative_in c.in-Is.n
-minus c = told _ _ c.size_of.ensures c.unsigned.ensures ∙ ap (made _ Wrong) c.in-Is.is ∙ cond_yes _ _ (so c.has_minus.ensures c.if-has_minus.true)
+minus : (most : ℕ) (w u : List ℕ) {s : Option ℕ} → pointwise eqb (take 1 w) (45 ∷ []) ≡ true → u ≡ drop 1 w → s ≡ size_in most u →
+    signed_of most w ≡ made negative_in None s
+unfolding signed_of unsigned
+minus most w u m f e =
+    let h : has_minus w ≡ true = sym (starts_minus w) ∙ m in
+    rw h (made_of negative_in None most (drop 1 w) (e ∙ ap (size_in most) f))
 
-plus : (c : Else-has_minus) → signed_of c.args.most c.args.word.now ≡ positive_in c.in-Is.n
-plus c = told _ _ c.size_of.ensures c.unsigned.ensures ∙ ap (made _ Wrong) c.in-Is.is ∙ cond_no _ _ (so c.has_minus.ensures c.if-has_minus.false)
+-- what the conversion to 32 bits answers
+within : {E : Type 0} (n : ℕ) (r : Result ℤ E) → OkIff r (SFits w32 (pos n)) (pos n) → result_ok r ≡ positive_in n
+within n (Ok z) h = let k = h.0 in ap Some h.1 ∙ sym (cond_no _ _ (lt-leb lowest n (omega (arith, k.sfits))))
+within n (Err e) h = sym (cond_yes _ _ (le-leb lowest n (by_test (lib.Dec.leb lowest n) (λ t. omega (arith, borrow.Author.Tests.leb-true lowest n t)) (λ t. absurd (h (record { sfits = omega (arith, borrow.Author.Tests.leb-false lowest n t) }))))))
+
+pub returns-in_err-size_of : goal.returns-in_err-size_of
+returns-in_err-size_of c = c.from_residual.ensures ∙ sym (plain _ _ c.in_default.ensures.cases c.in_err-size_of.ensures)
 
 pub returns-in_default : goal.returns-in_default
-returns-in_default c = sym (told _ _ c.size_of.ensures c.unsigned.ensures ∙ ap (made _ Wrong) c.in_default.is)
+returns-in_default c =
+    c.ok.ensures.value ∙ within _ _ c.try_from.ensures ∙ sym (plain _ _ c.in_default.ensures.cases c.in_ok-size_of.ensures)
+
+pub returns-in_err-n : goal.returns-in_err-n
+returns-in_err-n c =
+    let h = c.in-Some.ensures.cases in
+    c.from_residual-in_err-n.ensures ∙ sym (minus _ _ _ h.0 h.1 c.in_err-n.ensures)
 
 pub returns-then-n-eq0 : goal.returns-then-n-eq0
-returns-then-n-eq0 c = sym (minus (goal.at.returns-then-n-eq0 c).Then-has_minus ∙ cond_yes _ _ (eq-eqb _ _ c.if-n-eq0.true))
+returns-then-n-eq0 c =
+    let h = c.in-Some.ensures.cases in
+    sym (minus _ _ _ h.0 h.1 c.in_ok-n.ensures ∙ cond_yes _ _ (eq-eqb _ _ c.if-n-eq0.true))
 
 pub returns-then-n-gt-LOWEST : goal.returns-then-n-gt-LOWEST
-returns-then-n-gt-LOWEST c = sym (minus (goal.at.returns-then-n-gt-LOWEST c).Then-has_minus ∙ cond_no _ _ (ne_eqb _ _ c.if-n-eq0.false) ∙ cond_yes _ _ (lt-ltb _ _ c.if-n-gt-LOWEST.true))
-
-pub returns-then-has_minus : goal.returns-then-has_minus
-returns-then-has_minus c =
-    let f : SFits w32 c.negated.result = search rules in
-    ap Is (to_z-of_z f ∙ c.negated.ensures) ∙ sym (minus (goal.at.returns-then-has_minus c).Then-has_minus ∙ cond_no _ _ (ne_eqb _ _ c.if-n-eq0.false) ∙ cond_no _ _ (le-ltb _ _ c.if-n-gt-LOWEST.false))
-
-pub returns-then-n-ge-LOWEST : goal.returns-then-n-ge-LOWEST
-returns-then-n-ge-LOWEST c = sym (plus (goal.at.returns-then-n-ge-LOWEST c).Else-has_minus ∙ cond_yes _ _ (le-leb _ _ c.if-n-ge-LOWEST.true))
+returns-then-n-gt-LOWEST c =
+    let h = c.in-Some.ensures.cases in
+    sym (minus _ _ _ h.0 h.1 c.in_ok-n.ensures ∙ cond_no _ _ (ne_eqb _ _ c.if-n-eq0.false) ∙ cond_yes _ _ (lt-ltb _ _ c.if-n-gt-LOWEST.true))
 
 pub returns : goal.returns
 returns c =
-    let n = c.in-Is.n in
-    let h : n < lowest = c.if-n-ge-LOWEST.false in
-    ap Is (to_z_pos w32 {n = n} (omega arith)) ∙ sym (plus (goal.at.returns c).Else-has_minus ∙ cond_no _ _ (lt-leb _ _ h))
+    let f : SFits w32 c.negated.result = search rules in
+    let h = c.in-Some.ensures.cases in
+    ap Some (to_z-of_z f ∙ c.negated.ensures)
+    ∙ sym (minus _ _ _ h.0 h.1 c.in_ok-n.ensures ∙ cond_no _ _ (ne_eqb _ _ c.if-n-eq0.false) ∙ cond_no _ _ (le-ltb _ _ c.if-n-gt-LOWEST.false))

@@ -14,8 +14,8 @@ returns-then-most-length c = sym (cond_no _ _ (unsized _ _ (λ s. omega (arith, 
 pub returns-then-leading_zero : goal.returns-then-leading_zero
 returns-then-leading_zero c = sym (cond_no _ _ (unsized _ _ (λ s. never (sym s.lead ∙ c.if-leading_zero.true))))
 
-pub loop-i-init : goal.loop-i-init
+pub loop-byte-init : goal.loop-byte-init
 unfolding size_of
-loop-i-init c =
+loop-byte-init c =
     let a = c.args in
-    (omega arith, omega arith, omega arith, rw (size_if_digits a.most a.word.now (omega arith) (omega arith) c.if-leading_zero.false))
+    (omega arith, omega arith, rw (size_if_digits a.most a.word.now (omega arith) (omega arith) c.if-leading_zero.false))

@@ -15,7 +15,7 @@ use Rattle.word.proofs.decimal.Shown.of.Goals.{After-digits_of-digits}
 
 -- the digits are those of the magnitude, and they leave room for a minus
 told : (c : After-digits_of-digits) → c.digits_of-digits.result ≡ padded (shown (nat_abs c.args.x))
-told c = c.digits_of-digits.ensures ∙ ap (λ (n : ℕ). padded (shown n)) (rw (to_z-of_z c.ranges.x) at c.magnitude.ensures)
+told c = c.digits_of-digits.ensures ∙ ap (λ (n : ℕ). padded (shown n)) (rw (to_z-of_z c.ranges.x) at c.unsigned_abs.ensures.value)
 
 room : (c : After-digits_of-digits) → length (shown (nat_abs c.args.x)) ≤ 10
 room c =
