@@ -1,5 +1,5 @@
 -- Laws of the tests of a decimal's form.
-use Prim.Native.Nat.{ℕ, zero, suc, ◌+◌, ◌-◌, ◌*◌, ◌^◌, ◌<◌, ◌≤◌}
+use Prim.Native.Nat.{ℕ, suc, ◌+◌, ◌-◌, ◌*◌, ◌^◌, ◌<◌, ◌≤◌}
 use mathlib.Core.Path.{◌≡◌, refl, sym, ap, ◌∙◌}
 use mathlib.Core.Bool.{true, false, cond, not, ◌&&◌}
 use mathlib.Core.List.{List, [], ◌∷◌}
@@ -10,12 +10,8 @@ use borrow.Author.Tests.{le-leb, lt-leb, le-ltb, leb-true, not-true}
 use lib.Dec.{eqb, leb, lit<}
 use lib.ListN.{length, take}
 use lib.Pointwise.{pointwise}
-use lib.IntN.{pos, neg_ℤ, ◌-ℤ◌, +ℤ_idl}
-use mir.Syntax.{w32, w64}
-use mir.Val.{SFits, to_z}
-use mir.Facts.{to_z_pos}
-use Rattle.whole.proofs.Truth.{both, and, and_comm, never, push, by_test}
-use Rattle.word.specs.Decimal.{is_digit, all_digits, most_digits, long_digits, leading_zero, is_size, has_minus, unsigned, size_from, size_of, is_decimal, number_of, decimal_of, lowest, signed_of}
+use Rattle.whole.proofs.Truth.{both, and, and_comm, push, by_test}
+use Rattle.word.specs.Decimal.{is_digit, all_digits, most_digits, leading_zero, is_size, has_minus, unsigned, size_from, size_of, is_decimal, number_of, decimal_of, lowest, signed_of}
 use Rattle.std.specs.Prelude.{Option, Some, None}
 
 -- what a test for a minus at a word's beginning says

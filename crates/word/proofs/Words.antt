@@ -1,14 +1,15 @@
 -- The first such byte of a text: what stands before it and after it; and what a text begins with.
 use Prim.Native.Nat.{ℕ, suc, ◌+◌, ◌-◌, ◌<◌, ◌≤◌}
-use mathlib.Core.Path.{◌≡◌, refl, sym, ap, ◌∙◌}
+use mathlib.Core.Path.{◌≡◌, refl, sym, ap, ap₂, ◌∙◌}
 use mathlib.Core.Bool.{Bool, true, false, cond, not, ◌&&◌}
 use mathlib.Core.List.{List, [], ◌∷◌, ◌++◌}
 use native.Mathlib.Omega.{arith}
-use borrow.Author.Tests.{eqb-true, eq-eqb, not-true}
+use borrow.Author.Tests.{eqb-true, eqb-false, eq-eqb, ne_eqb, not-true}
 use lib.Dec.{eqb}
 use lib.ListN.{length, take, drop}
+use lib.Pointwise.{pointwise}
 use lib.Seq.{take_at, drop-append-add}
-use Rattle.whole.proofs.Truth.{both, and, never, chosen}
+use Rattle.whole.proofs.Truth.{both, and, never, chosen, by_test}
 use Rattle.word.specs.End.{end_at, begins}
 use Rattle.whole.proofs.Lists.{part_left}
 
@@ -74,3 +75,17 @@ pub begun_long : (k l : List ℕ) → begins k l ≡ true → length k ≤ lengt
 begun_long [] l e = omega arith
 begun_long (x ∷ k) [] e = never e
 begun_long (x ∷ k) (b ∷ l) e = omega (arith, begun_long k l (both (eqb b x) (begins k l) e).1)
+
+-- what std's tests for a text's beginning say
+eqb_turned : (a b : ℕ) → eqb a b ≡ eqb b a
+eqb_turned a b = by_test (eqb b a) (λ e. eq-eqb a b (sym (eqb-true b a e)) ∙ sym e) (λ e. ne_eqb a b (λ q. absurd (eqb-false b a e (sym q))) ∙ sym e)
+
+pub starts_begins : (k l : List ℕ) → pointwise eqb k (take (length k) l) ≡ begins k l
+starts_begins [] l = refl
+starts_begins (x ∷ k) [] = refl
+starts_begins (x ∷ k) (b ∷ l) = ap₂ (λ (t u : Bool). t && u) (eqb_turned x b) (starts_begins k l)
+
+pub front_begins : (k l : List ℕ) → pointwise eqb (take (length k) l) k ≡ begins k l
+front_begins [] l = refl
+front_begins (x ∷ k) [] = refl
+front_begins (x ∷ k) (b ∷ l) = ap (λ (t : Bool). eqb b x && t) (front_begins k l)

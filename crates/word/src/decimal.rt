@@ -1,7 +1,7 @@
 // One decimal, as the settings and the sample file have it: "an optional minus and 1 to 7 digits, no leading zero except
 // the number 0 itself, no minus zero".
-ghost use Rattle.std.specs.Prelude.{◌≡◌, cond, ◌<◌, ◌≤◌, pos, neg_ℤ, Some, None};
-ghost use Rattle.word.specs.Decimal.{long_digits, is_size, size_of, lowest, signed_of, decimal_of, shown, decimal, padded};
+ghost use Rattle.std.specs.Prelude.{◌≡◌, cond, ◌<◌, ◌≤◌, ℕ, List, length, pos, neg_ℤ, Some, None};
+ghost use Rattle.word.specs.Decimal.{long_digits, is_size, size_of, lowest, signed_of, decimal_of, shown, decimal, padded, decimal_room};
 
 // "1 to 7 digits".
 const DIGITS: usize = 7;
@@ -16,7 +16,7 @@ pub(crate) fn size_of(word: &[u8], most: usize) -> Option<u64>
     ensures { result ≡ cond (is_size most word.now) (Some (size_of word.now)) None }
 {
     let length = word.len();
-    if length < 1 {
+    if word.is_empty() {
         return None;
     }
     if most < length {
@@ -36,11 +36,12 @@ pub(crate) fn size_of(word: &[u8], most: usize) -> Option<u64>
     Some(n)
 }
 
+// The number that so many below zero is.
 fn negated(n: u64) -> i32
     requires { (0 < n) × (n ≤ lowest) }
     ensures { result ≡ neg_ℤ (pos n) }
 {
-    (0 - n as i64) as i32
+    -(n as i64) as i32
 }
 
 // A decimal of at most so many digits, within 32 bits.
@@ -75,38 +76,49 @@ pub struct Shown {
     pub from: usize,
 }
 
-pub(crate) fn digits_of(n: u32) -> Shown
-    ensures { result ≡ padded (shown n) }
-{
-    let mut bytes = [0u8; Shown::ROOM];
-    let mut from = Shown::LAST;
-    bytes[from] = b'0' + (n % 10) as u8;
-    let mut left = n / 10;
-    while 0 < left {
-        from -= 1;
-        bytes[from] = b'0' + (left % 10) as u8;
-        left /= 10;
-    }
-    Shown { bytes, from }
-}
-
 impl Shown {
     // The most bytes of a number of 32 bits: a minus and ten digits.
     pub const ROOM: usize = 11;
 
     const LAST: usize = Shown::ROOM - 1;
+}
 
-    // The decimal of a number.
-    pub fn of(x: i32) -> Shown
-        ensures { result ≡ padded (decimal x) }
-    {
-        let digits = digits_of(x.unsigned_abs());
-        if x < 0 {
-            let mut bytes = digits.bytes;
-            let from = digits.from - 1;
-            bytes[from] = b'-';
-            return Shown { bytes, from };
+// A number that has a decimal.
+pub trait Decimal {
+    // What stands for it in a text.
+    ghost text: { Self → List ℕ };
+
+    fn shown(self) -> Shown
+        ensures value { result ≡ padded (text self) }
+        ensures room { length (text self) ≤ decimal_room };
+}
+
+impl Decimal for u32 {
+    ghost text = { shown };
+
+    fn shown(self) -> Shown {
+        let mut bytes = [0u8; Shown::ROOM];
+        let mut from = Shown::LAST;
+        bytes[from] = b'0' + (self % 10) as u8;
+        let mut left = self / 10;
+        while 0 < left {
+            from -= 1;
+            bytes[from] = b'0' + (left % 10) as u8;
+            left /= 10;
         }
-        digits
+        Shown { bytes, from }
+    }
+}
+
+impl Decimal for i32 {
+    ghost text = { decimal };
+
+    fn shown(self) -> Shown {
+        let mut text = self.unsigned_abs().shown();
+        if self < 0 {
+            text.from -= 1;
+            text.bytes[text.from] = b'-';
+        }
+        text
     }
 }

@@ -1,10 +1,10 @@
-use Rattle.std.proofs.Common.{ℕ, ◌≤◌, ◌+◌, eqb, ltb, cond, List, length, Option, Some, None, refl, sym, ap, ◌∙◌, ◌≡◌, arith, rules, tests}
+use Rattle.std.proofs.Common.{ℕ, ◌≤◌, eqb, ltb, cond, length, Option, Some, None, refl, sym, ap, ◌∙◌, ◌≡◌, arith, rules, tests}
 use Rattle.std.specs.Option.{unwrap_or}
 use Rattle.std.specs.List.{position_or_len}
 use Rattle.std.proofs.lemmas.Iterator.{YieldsList-from_slice}
 use Rattle.std.proofs.lemmas.Iterator.Search.{position_from_yields_List}
 use Rattle.std.proofs.lemmas.List.Recursion.{is_position_or_len}
-use borrow.Author.Tests.{lt-ltb, ltb-false}
+use borrow.Author.Tests.{ltb-false}
 use Rattle.whole.proofs.Truth.{chosen}
 use Rattle.word.specs.End.{end_at}
 use Rattle.word.proofs.Words.{end_in}
