@@ -1,12 +1,10 @@
 -- 01, "What is built": the program that writes the outputs of samples. What becomes of one line of the file.
-use Rattle.std.specs.Prelude.{ℕ, ◌+◌, cond, List, ◌++◌, eqb, ℤ}
+use Rattle.std.specs.Prelude.{ℕ, ◌+◌, cond, List, ◌++◌, eqb, ℤ, Option, Some, None}
 use Rattle.command.specs.declared.Command.TheVariants.{Sample}
 use Rattle.delivery.specs.declared.numbered.Numbered.{Numbered}
 use Rattle.delivery.specs.declared.numbered.Delivered.{Delivered}
 use Rattle.memory.specs.Memory.{last_number}
 use Rattle.delivery.specs.Numbered.{delivered_of}
-use Rattle.word.specs.declared.decimal.Decimal.{Decimal}
-use Rattle.word.specs.declared.decimal.Decimal.TheVariants.{Is, Wrong}
 use Rattle.word.specs.Decimal.{decimal, decimal_of}
 use Rattle.whole.specs.Words.{bytes}
 use Rattle.answer.specs.Verdict.{Verdict, refused, answered}
@@ -28,9 +26,9 @@ unfoldable pub by_sample : Numbered → ℤ → Verdict
 by_sample l pv = cond (eqb l.memory.number last_number) (refused l 13) (by_answer (sampled_of l pv))
 
 -- "A malformed sample line [..] is 14"
-abbrev pub by_decimal : Numbered → Decimal → Verdict
-by_decimal l (Is pv) = by_sample l pv
-by_decimal l Wrong = refused l 14
+abbrev pub by_decimal : Numbered → Option ℤ → Verdict
+by_decimal l (Some pv) = by_sample l pv
+by_decimal l None = refused l 14
 
 -- "The sample file has the settings' decimal form"
 unfoldable pub sample_line : Numbered → List ℕ → Verdict

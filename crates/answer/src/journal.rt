@@ -7,7 +7,7 @@ ghost use Rattle.answer.specs.Journal.{answer_text, journal_answer, journal_line
 use crate::verdict::{Judged, refused};
 use delivery::numbered::{Delivered, Numbered};
 use delivery_line::{Delivery, parse};
-use word::buffer::{put, put_signed, put_unsigned};
+use word::buffer::{put, put_decimal};
 
 // ` code=C output=U last=L` and a line feed, from place at on; the place after it.
 fn put_answer(out: &mut [u8], at: usize, code: u8, output: i32, last: u32) -> usize
@@ -16,11 +16,11 @@ fn put_answer(out: &mut [u8], at: usize, code: u8, output: i32, last: u32) -> us
     ensures out_after { out.new ≡ sets out.old at (answer_text code output last) }
 {
     put(out, at, b" code=");
-    let a = at + 6 + put_unsigned(out, at + 6, code as u32);
+    let a = at + 6 + put_decimal(out, at + 6, code as u32);
     put(out, a, b" output=");
-    let b = a + 8 + put_signed(out, a + 8, output);
+    let b = a + 8 + put_decimal(out, a + 8, output);
     put(out, b, b" last=");
-    let d = b + 6 + put_unsigned(out, b + 6, last);
+    let d = b + 6 + put_decimal(out, b + 6, last);
     put(out, d, b"\n");
     d + 1
 }

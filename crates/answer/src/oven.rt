@@ -5,14 +5,14 @@ ghost use Rattle.answer.specs.Oven.{output_line, by_answer, by_sample, sample_li
 use crate::verdict::{Judged, refused};
 use command::Command;
 use delivery::numbered::{Delivered, Numbered};
-use word::buffer::{put, put_signed};
-use word::decimal::Decimal;
+use word::buffer::{put, put_decimal};
+use word::decimal::read_decimal;
 
 // "writes each output as a decimal and a line feed"
 fn answer(state: Numbered, output: i32, out: &mut [u8]) -> Judged
     ensures { Judges 0 (answered state (output_line output)) out.old result out.new }
 {
-    let end = put_signed(out, 0, output);
+    let end = put_decimal(out, 0, output);
     put(out, end, b"\n");
     Judged {
         code: 0,
@@ -47,9 +47,8 @@ fn sample(state: Numbered, pv: i32, out: &mut [u8]) -> Judged
 pub(crate) fn sample_line(state: Numbered, line: &[u8], out: &mut [u8]) -> Judged
     ensures { Judges 0 (sample_line state line.now) out.old result out.new }
 {
-    let word = Decimal::of(line);
-    match word {
-        Decimal::Wrong => refused(state, 14),
-        Decimal::Is(pv) => sample(state, pv, out),
+    match read_decimal(line) {
+        None => refused(state, 14),
+        Some(pv) => sample(state, pv, out),
     }
 }

@@ -4,7 +4,7 @@ ghost use Rattle.settings.specs.Table.{longest_key, row_of, row_at, head_rows, g
 ghost use Rattle.settings.specs.Settings.{gain_values, head_values, all_in, held_from, in_table};
 
 use crate::{Gains, Settings};
-use word::buffer::{put, put_unsigned};
+use word::buffer::{put, put_decimal};
 
 // A settings key, how many bytes it has, and the least and the most of the value.
 #[derive(Clone, Copy)]
@@ -76,7 +76,7 @@ impl Row {
     {
         let mut key = self.key;
         let n = self.len;
-        let end = n + put_unsigned(&mut key, n, k as u32);
+        let end = n + put_decimal(&mut key, n, k as u32);
         put(&mut key, end, b"=");
         Row {
             key,

@@ -4,7 +4,7 @@ ghost use Rattle.std.proofs.lemmas.List.Edits.{sets};
 ghost use Rattle.stream.specs.Run.{line_room, refused_line, refusing, following, over_of, next_of, Tells};
 
 use delivery::numbered::Numbered;
-use word::buffer::{put, put_unsigned};
+use word::buffer::{put, put_decimal};
 
 // A run that is under way: the first len of the bytes are those of the line under way, whose number in the file is line.
 // The lines are deliveries for the journal, else samples. Once ended, nothing more is written.
@@ -39,9 +39,9 @@ fn put_refused(out: &mut [u8], code: u8, line: u32) -> usize
     ensures out_after { out.new ≡ sets out.old 0 (refused_line code line) }
 {
     put(out, 0, b"refused ");
-    let space = 8 + put_unsigned(out, 8, code as u32);
+    let space = 8 + put_decimal(out, 8, code as u32);
     put(out, space, b" ");
-    let end = space + 1 + put_unsigned(out, space + 1, line);
+    let end = space + 1 + put_decimal(out, space + 1, line);
     put(out, end, b"\n");
     end + 1
 }

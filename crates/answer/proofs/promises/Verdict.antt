@@ -10,8 +10,7 @@ use Rattle.delivery.specs.declared.numbered.Numbered.{Numbered}
 use Rattle.memory.specs.Memory.{last_number}
 use Rattle.delivery.specs.Numbered.{valid_of}
 use Rattle.delivery.proofs.promises.Delivery.{again_valid}
-use Rattle.word.specs.declared.decimal.Decimal.{Decimal}
-use Rattle.word.specs.declared.decimal.Decimal.TheVariants as decimal
+use Rattle.std.specs.Prelude.{ℤ, Option, Some, None}
 use Rattle.word.specs.Decimal.{decimal_of}
 use Rattle.delivery_line.specs.declared.Delivery.{Delivery}
 use Rattle.delivery_line.specs.declared.Delivery.TheVariants.{Is, Wrong}
@@ -26,10 +25,10 @@ use Rattle.answer.specs.Judge.{judged_by}
 abbrev Quiet : Verdict → Type 0
 Quiet v = (v.code ≡ 0 → ⊥) → v.text ≡ []
 
-sample_quiet : (l : Numbered) (d : Decimal) → Quiet (by_decimal l d)
+sample_quiet : (l : Numbered) (d : Option ℤ) → Quiet (by_decimal l d)
 unfolding by_sample by_answer
-sample_quiet l decimal.Wrong = λ _. refl
-sample_quiet l (decimal.Is pv) =
+sample_quiet l None = λ _. refl
+sample_quiet l (Some pv) =
     chosen Quiet (eqb l.memory.number last_number) (λ _ _. refl)
     (λ _. chosen Quiet (eqb (sampled_of l pv).code 0) (λ _ h. absurd (h refl)) (λ _ _. refl))
 
@@ -48,10 +47,10 @@ abbrev Good : Verdict → Type 0
 Good v = valid_of v.state ≡ true
 
 module _ (l : Numbered) (v : valid_of l ≡ true) where
-  sample_good : (d : Decimal) → Good (by_decimal l d)
+  sample_good : (d : Option ℤ) → Good (by_decimal l d)
   unfolding by_sample by_answer
-  sample_good decimal.Wrong = v
-  sample_good (decimal.Is pv) =
+  sample_good None = v
+  sample_good (Some pv) =
       let g = again_valid l _ (Sample pv) v in
       chosen Good (eqb l.memory.number last_number) (λ _. v) (λ _. chosen Good (eqb (sampled_of l pv).code 0) (λ _. g) (λ _. g))
 

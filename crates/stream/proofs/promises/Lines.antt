@@ -12,7 +12,7 @@ use Rattle.whole.proofs.Truth.{both, by_test, chosen, cond_yes, cond_no}
 use Rattle.delivery.specs.declared.numbered.Numbered.{Numbered}
 use Rattle.delivery.specs.Numbered.{blank_of}
 use Rattle.word.specs.End.{feed}
-use Rattle.word.specs.declared.decimal.Decimal.TheVariants.{Wrong}
+use Rattle.std.specs.Prelude.{None}
 use Rattle.word.specs.Decimal.{most_digits, is_size, has_minus, unsigned, decimal_of}
 use Rattle.text.specs.Reader.{read_text}
 use Rattle.word.proofs.Digits.{sized, no_size}
@@ -165,7 +165,7 @@ unfolding unsigned
 unsigned_long w =
     chosen (λ (x : List ℕ). length w ≤ length x + 1) (has_minus w) (λ _. rw length-drop (omega arith)) (λ _. omega arith)
 
-long_wrong : (w : List ℕ) → line_most < length w → decimal_of w ≡ Wrong
+long_wrong : (w : List ℕ) → line_most < length w → decimal_of w ≡ None
 long_wrong w h =
     by_test (is_size most_digits (unsigned w)) (λ e. absurd (omega (arith, (sized most_digits (unsigned w) e).few, unsigned_long w))) (no_size w)
 

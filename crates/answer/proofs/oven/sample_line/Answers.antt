@@ -7,13 +7,13 @@ use Rattle.answer.proofs.Verdicts.{judges_by, judges_refused}
 use borrow.Author.Rules.{rules}
 use Rattle.answer.proofs.oven.sample_line.Goals as goal
 
-pub returns-in-Wrong : goal.returns-in-Wrong
+pub returns-in-None : goal.returns-in-None
 unfolding sample_line
-returns-in-Wrong c =
-    judges_by (ap (by_decimal c.args.state) (sym c.of-word.ensures ∙ c.in-Wrong.is)) (judges_refused c.refused.ensures)
+returns-in-None c =
+    judges_by (ap (by_decimal c.args.state) (sym c.read_decimal.ensures ∙ c.in-None.is)) (judges_refused c.refused.ensures)
 
-pub returns-in-Is : goal.returns-in-Is
+pub returns-in-Some : goal.returns-in-Some
 unfolding sample_line
-returns-in-Is c =
-    let w : SFits w32 c.in-Is.pv = search rules in
-    judges_by (ap (by_decimal c.args.state) (sym c.of-word.ensures ∙ c.in-Is.is)) (rw (to_z-of_z w) at c.sample.ensures)
+returns-in-Some c =
+    let w : SFits w32 c.in-Some.pv = search rules in
+    judges_by (ap (by_decimal c.args.state) (sym c.read_decimal.ensures ∙ c.in-Some.is)) (rw (to_z-of_z w) at c.sample.ensures)

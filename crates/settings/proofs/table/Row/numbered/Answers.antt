@@ -6,19 +6,19 @@ use Rattle.word.proofs.Shows.{shown_room}
 use Rattle.settings.proofs.Rows.{numbered_is}
 use borrow.Author.Rules.{rules}
 use Rattle.settings.proofs.table.Row.numbered.Goals as goal
-use Rattle.settings.proofs.table.Row.numbered.Goals.{After-put_unsigned}
+use Rattle.settings.proofs.table.Row.numbered.Goals.{After-put_decimal}
 
 -- the set's number has few digits
-few : (c : After-put_unsigned) → c.put_unsigned.result ≤ 10
-few c = rw c.put_unsigned.ensures.value (shown_room _ (omega arith))
+few : (c : After-put_decimal) → c.put_decimal.result ≤ 10
+few c = rw c.put_decimal.ensures.value (shown_room _ (omega arith))
 
 pub overflow_add-end : goal.overflow_add-end
-overflow_add-end c = omega (arith, few (goal.at.overflow_add-end c).After-put_unsigned)
+overflow_add-end c = omega (arith, few (goal.at.overflow_add-end c).After-put_decimal)
 
 pub overflow_add-result : goal.overflow_add-result
-overflow_add-result c = omega (arith, few (goal.at.overflow_add-result c).After-put_unsigned)
+overflow_add-result c = omega (arith, few (goal.at.overflow_add-result c).After-put_decimal)
 
 pub returns : goal.returns
 returns c =
     let a = c.args in
-    numbered_is a.self a.k c.put_unsigned.result c.put_unsigned.ensures.value c.put_unsigned.ensures.buffer_after c.put.ensures (to_z-of_z {w = w32} (search rules)) (to_z-of_z {w = w32} (search rules))
+    numbered_is a.self a.k c.put_decimal.result c.put_decimal.ensures.value c.put_decimal.ensures.buffer_after c.put.ensures (to_z-of_z {w = w32} (search rules)) (to_z-of_z {w = w32} (search rules))
