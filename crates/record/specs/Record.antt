@@ -1,9 +1,10 @@
 -- 01, "What a loop remembers": the fresh loop, the blank, the state rules, and the making of a loop.
-use Rattle.std.specs.Prelude.{Bool, false, not, cond, ◌&&◌, ◌||◌, eqb, ltb, ℤ, pos, neg_ℤ}
+use Rattle.std.specs.Prelude.{ℕ, Bool, false, not, cond, ◌&&◌, ◌||◌, eqb, ltb, ℤ, pos, neg_ℤ}
 use Rattle.whole.specs.Numbers.{eq_z, inside}
+use Rattle.refusal.specs.Refusal.{code_in}
 use Rattle.settings.specs.declared.Settings.{Settings}
 use Rattle.record.specs.declared.Loop.{Loop}
-use Rattle.record.specs.declared.Made.{Made}
+use Rattle.record.specs.declared.After.{After}
 use Rattle.record.specs.Units.{B, fine_reach}
 use Rattle.settings.specs.Table.{in_reach, fastest, sets}
 use Rattle.settings.specs.Settings.{in_table, ordered, settings_refusal, blank_settings}
@@ -50,6 +51,14 @@ blank_loop = record {
 -- of what it remembers, what a raw temperature is held against (02, request 8)
 abbrev pub guard_of : Loop → Guard
 guard_of l = record { automatic = l.automatic; primed = l.primed; jump = l.settings.jump; raw = l.raw }
+
+-- what a making tells: its code, and the loop beside it
+pub record Made : Type 0 where
+  pub code : ℕ
+  pub state : Loop
+
+abbrev pub made_told : After Loop → Made
+made_told m = record { code = code_in m.outcome; state = m.state }
 
 -- "Making a loop from settings tests 11, then 16. Where making a loop [..] is refused, what stands beside the code is the blank"
 unfoldable pub made_of : Settings → Made

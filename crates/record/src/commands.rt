@@ -1,4 +1,4 @@
-// The commands but a sample. They refuse nothing: the law asks `refusal` first, and a program goes through the law.
+// The commands but a sample. They refuse nothing: the law asks `check` first, and a program goes through the law.
 ghost use Rattle.std.specs.Prelude.{◌≡◌};
 ghost use Rattle.record.specs.Commands.{hold_of, put_of, automatic_of, target_of, set_of};
 

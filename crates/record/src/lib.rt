@@ -4,8 +4,9 @@
 #![tactic(auto)]
 
 ghost use Rattle.std.specs.Prelude.{◌≡◌};
-ghost use Rattle.record.specs.Record.{fresh_of, blank_loop, made_of, places_ok, fine_ok, pending_ok, guard_of, valid};
+ghost use Rattle.record.specs.Record.{fresh_of, blank_loop, made_told, made_of, places_ok, fine_ok, pending_ok, guard_of, valid};
 
+use refusal::Refusal;
 use settings::Settings;
 use temperature::Guard;
 use window::Window;
@@ -31,10 +32,11 @@ pub struct Loop {
     pub raw: i32,
 }
 
+// What became of a call, and the state that stands beside the answer: on a refusal too there is one.
 #[derive(Clone, Copy)]
-pub struct Made {
-    pub code: u8,
-    pub state: Loop,
+pub struct After<S> {
+    pub outcome: Result<(), Refusal>,
+    pub state: S,
 }
 
 // "Fresh loops and the constants above belong to the loop's type."
@@ -86,20 +88,15 @@ impl Loop {
         Loop::fresh(Settings::blank())
     }
 
-    pub fn make(settings: Settings) -> Made
-        ensures { result ≡ made_of settings }
+    pub fn make(settings: Settings) -> After<Loop>
+        ensures { made_told result ≡ made_of settings }
     {
-        let code = settings.refusal();
-        if code == 0 {
-            return Made {
-                code: 0,
-                state: Loop::fresh(settings),
-            };
-        }
-        Made {
-            code,
-            state: Loop::blank(),
-        }
+        let outcome = settings.check();
+        let state = match outcome {
+            Ok(()) => Loop::fresh(settings),
+            Err(_) => Loop::blank(),
+        };
+        After { outcome, state }
     }
 
     fn places_ok(self) -> bool

@@ -1,65 +1,67 @@
 // What is wrong with a command's content.
 ghost use Rattle.std.specs.Prelude.{◌≡◌};
+ghost use Rattle.refusal.specs.Refusal.{code_in};
 ghost use Rattle.record.specs.Refusals.{sample_refusal, put_refusal, target_refusal, set_refusal, refusal_of};
 
 use crate::Loop;
 use command::Command;
+use refusal::Refusal;
 use settings::Settings;
 
-fn refuse_target(t: i32, r: i32) -> u8
-    ensures { result ≡ target_refusal t r }
+fn check_target(t: i32, r: i32) -> Result<(), Refusal>
+    ensures { code_in result ≡ target_refusal t r }
 {
-    if whole::lies_in(-Loop::REACH, Loop::REACH, t) {
-        if whole::lies_in(1, Loop::FASTEST, r) {
-            0
-        } else {
-            8
-        }
-    } else {
-        7
+    if !whole::lies_in(-Loop::REACH, Loop::REACH, t) {
+        return Err(Refusal::Target);
     }
+    if !whole::lies_in(1, Loop::FASTEST, r) {
+        return Err(Refusal::Rate);
+    }
+    Ok(())
 }
 
 // The number of the last gain set.
 const LAST_SET: i32 = Settings::SETS as i32 - 1;
 
-fn refuse_set(k: i32) -> u8
-    ensures { result ≡ set_refusal k }
+fn check_set(k: i32) -> Result<(), Refusal>
+    ensures { code_in result ≡ set_refusal k }
 {
-    if whole::lies_in(0, LAST_SET, k) { 0 } else { 9 }
+    if !whole::lies_in(0, LAST_SET, k) {
+        return Err(Refusal::NoSet);
+    }
+    Ok(())
 }
 
 impl Loop {
-    fn refuse_sample(self, pv: i32) -> u8
-        ensures { result ≡ sample_refusal self pv }
+    fn check_sample(self, pv: i32) -> Result<(), Refusal>
+        ensures { code_in result ≡ sample_refusal self pv }
     {
-        self.guard().refusal(pv)
+        self.guard().check(pv)
     }
 
-    fn refuse_put(self, x: i32) -> u8
-        ensures { result ≡ put_refusal self x }
+    fn check_put(self, x: i32) -> Result<(), Refusal>
+        ensures { code_in result ≡ put_refusal self x }
     {
         if self.automatic {
-            6
-        } else if whole::lies_in(self.settings.lo, self.settings.hi, x) {
-            0
-        } else {
-            5
+            return Err(Refusal::PutInAutomatic);
         }
+        if !whole::lies_in(self.settings.lo, self.settings.hi, x) {
+            return Err(Refusal::PutOutside);
+        }
+        Ok(())
     }
 
-    // The code of what is wrong with a command's content, and 0 where the law accepts it.
+    // What is wrong with a command's content, if anything is.
     #[tactic(auto, unfolding(crate::specs::Refusals::refusal_of))]
-    pub fn refusal(self, c: Command) -> u8
-        ensures { result ≡ refusal_of self c }
+    pub fn check(self, c: Command) -> Result<(), Refusal>
+        ensures { code_in result ≡ refusal_of self c }
     {
         match c {
-            Command::Sample(pv) => self.refuse_sample(pv),
-            Command::Hold => 0,
-            Command::Put(x) => self.refuse_put(x),
-            Command::Automatic => 0,
-            Command::Target(t, r) => refuse_target(t, r),
-            Command::Set(k) => refuse_set(k),
+            Command::Sample(pv) => self.check_sample(pv),
+            Command::Put(x) => self.check_put(x),
+            Command::Target(t, r) => check_target(t, r),
+            Command::Set(k) => check_set(k),
+            Command::Hold | Command::Automatic => Ok(()),
         }
     }
 }

@@ -1,5 +1,5 @@
 -- DEMAND 1, of a loop that is made. The state rules of one that is moved on are the law's.
-use mathlib.Core.Path.{◌≡◌, refl}
+use mathlib.Core.Path.{◌≡◌, refl, ap, ap₂}
 use mathlib.Core.Bool.{true, false, cond}
 use borrow.Author.Tests.{eqb-true, eqb-false}
 use lib.Dec.{eqb}
@@ -7,8 +7,13 @@ use Rattle.whole.proofs.Truth.{chosen, zero_if, zero_then}
 use Rattle.settings.specs.declared.Settings.{Settings}
 use Rattle.settings.specs.Table.{rows_of}
 use Rattle.settings.specs.Settings.{blank_settings, settings_refusal, in_table, ordered}
-use Rattle.record.specs.declared.Made.{Made}
-use Rattle.record.specs.Record.{fresh_of, blank_loop, made_of, valid}
+use Rattle.std.proofs.Common.{Result}
+use Rattle.std.specs.Bool.{⊤}
+use Rattle.refusal.specs.declared.Refusal.{Refusal}
+use Rattle.refusal.proofs.promises.Codes.{code_in_once}
+use Rattle.record.specs.declared.After.{After}
+use Rattle.record.specs.declared.Loop.{Loop}
+use Rattle.record.specs.Record.{Made, fresh_of, blank_loop, made_told, made_of, valid}
 use Rattle.record.proofs.Rules.{valid_of_holds}
 use Rattle.record.proofs.Kept.{fresh_holds}
 
@@ -28,3 +33,10 @@ made_valid s =
 pub blank_broken : valid blank_loop ≡ false
 unfolding valid blank_loop blank_settings in_table rows_of
 blank_broken = refl
+
+-- What a making tells leaves nothing of it out.
+pub made_once : (a b : After Loop) → made_told a ≡ made_told b → a ≡ b
+made_once a b e =
+    ap₂ (λ (o : Result ⊤ Refusal) (l : Loop). record { outcome = o; state = l })
+    (code_in_once a.outcome b.outcome (ap (λ (m : Made). m.code) e))
+    (ap (λ (m : Made). m.state) e)

@@ -1,7 +1,7 @@
 -- 02, request 8, of raw temperatures alone. By their contracts `check` answers `code_of g pv`, and `first_bad` the earliest bad
 -- sample of a list.
 use Prim.Native.Nat.{ℕ, zero, suc, ◌<◌}
-use mathlib.Core.Path.{◌≡◌, refl, sym, ap, ◌∙◌}
+use mathlib.Core.Path.{◌≡◌, refl, sym, ap, ap₂, ◌∙◌}
 use mathlib.Core.Bool.{true, false}
 use mathlib.Core.List.{List, [], ◌∷◌}
 use native.Mathlib.Omega.{arith}
@@ -11,7 +11,12 @@ use lib.IntN.{ℤ, pos, negsuc}
 use lib.ListN.{length, get_or}
 use Rattle.whole.proofs.Truth.{and, by_test}
 use Rattle.temperature.specs.declared.Guard.{Guard}
-use Rattle.temperature.specs.Temperature.{Bad, raw_ok, code_of, past, first_bad, first_code, bad_of, held_against}
+use Rattle.std.proofs.Common.{Result, Ok, Err}
+use Rattle.std.specs.Bool.{⊤}
+use Rattle.refusal.specs.declared.Refusal.{Refusal}
+use Rattle.refusal.proofs.promises.Codes.{code_for_once, refused_not_0}
+use Rattle.temperature.specs.declared.Bad.{Bad as Earliest}
+use Rattle.temperature.specs.Temperature.{Bad, raw_ok, code_of, past, first_bad, first_code, bad_of, bad_told, held_against}
 use Rattle.temperature.proofs.Earliest.{bad_on, bad_first, code_none}
 use Rattle.temperature.proofs.Ranged.{taken_reach}
 
@@ -76,6 +81,19 @@ unfolding first_code
 all_good g [] f = refl
 all_good g (pv ∷ pvs) f =
     (bad_on g pv pvs (f 0 (omega arith))).1 ∙ all_good (past g pv) pvs (λ i l. later g pv pvs i ∙ f (suc i) (omega arith))
+
+-- what is told of a list leaves nothing of the result out
+pub bad_once : (n : ℕ) (a b : Result ⊤ Earliest) → bad_told n a ≡ bad_told n b → a ≡ b
+bad_once n (Ok _) (Ok _) e = refl
+bad_once n (Ok _) (Err y) e = absurd (refused_not_0 y.refusal (sym (ap (λ (b : Bad). b.code) e)))
+bad_once n (Err x) (Ok _) e = absurd (refused_not_0 x.refusal (ap (λ (b : Bad). b.code) e))
+bad_once n (Err x) (Err y) e =
+    ap₂ bad_at
+    (code_for_once x.refusal y.refusal (ap (λ (b : Bad). b.code) e))
+    (ap (λ (b : Bad). b.place) e)
+  where
+    bad_at : Refusal → ℕ → Result ⊤ Earliest
+    bad_at r i = Err (record { refusal = r; place = i })
 
 -- ---- numbers
 

@@ -1,15 +1,15 @@
-use mathlib.Core.Path.{◌∙◌}
+use mathlib.Core.Path.{sym, ◌∙◌}
 use borrow.Author.Tests.{eq-eqb, ne_eqb}
-use Rattle.whole.proofs.Truth.{so}
+use Rattle.refusal.proofs.promises.Codes.{refused_not_0}
 use Rattle.record.specs.Record.{made_of}
 use Rattle.record.proofs.Loop.make.Goals as goal
 
-pub returns-then-code-eq0 : goal.returns-then-code-eq0
+pub returns-in-Ok : goal.returns-in-Ok
 unfolding made_of
-returns-then-code-eq0 c =
-    rw (eq-eqb _ _ (so c.refusal-code.ensures c.if-code-eq0.true), c.fresh.ensures)
+returns-in-Ok c =
+    rw (c.in-Ok.is, eq-eqb _ _ (sym c.in-Ok.ensures), c.fresh-state.ensures)
 
-pub returns : goal.returns
+pub returns-in-Err : goal.returns-in-Err
 unfolding made_of
-returns c =
-    rw (ne_eqb _ _ (λ q. c.if-code-eq0.false (c.refusal-code.ensures ∙ q)), ← c.refusal-code.ensures, c.blank.ensures)
+returns-in-Err c =
+    rw (c.in-Err.is, ne_eqb _ _ (λ q. refused_not_0 _ (c.in-Err.ensures ∙ q)), ← c.in-Err.ensures, c.blank-state.ensures)

@@ -7,7 +7,7 @@ use mir.Facts.{to_z-of_z}
 use mir.Syntax.{w32}
 use Rattle.refusal.specs.Refusal.{code_in}
 use Rattle.temperature.specs.Temperature.{code_of, past}
-use Rattle.temperature.proofs.Codes.{some_code}
+use Rattle.refusal.proofs.promises.Codes.{refused_not_0}
 use Rattle.temperature.proofs.Earliest.{taken_here, bad_here, none_left, bad_is}
 use Rattle.temperature.proofs.Guard.first_bad.Goals as goal
 use Rattle.temperature.proofs.Guard.first_bad.Goals.{After-past-guard, After-check}
@@ -21,7 +21,7 @@ past_is c = c.past-guard.ensures ∙ ap (past c.loop-place.guard) (to_z-of_z {w 
 pub returns-in-Err : goal.returns-in-Err
 returns-in-Err c =
     let e = rw c.in-Err.is at (code_is (goal.at.returns-in-Err c).After-check) in
-    let b = bad_here c.loop-place.guard c.args.samples.now c.loop-place.place c.loop-place-test.true (λ z. some_code c.in-Err.refusal (e ∙ z)) in
+    let b = bad_here c.loop-place.guard c.args.samples.now c.loop-place.place c.loop-place-test.true (λ z. refused_not_0 c.in-Err.refusal (e ∙ z)) in
     bad_is (e ∙ sym b.1 ∙ sym c.loop-place.invariant.1) (omega (arith, b.0, c.loop-place.invariant.0))
 
 pub loop-place-preserved : goal.loop-place-preserved

@@ -3,7 +3,7 @@ use mathlib.Core.List.{List}
 use lib.IntN.{ℤ}
 use Rattle.temperature.specs.declared.Guard.{Guard}
 use Rattle.temperature.specs.Temperature.{Bad, bad_of, first_code}
-use Rattle.temperature.proofs.Codes.{some_code}
+use Rattle.refusal.proofs.promises.Codes.{refused_not_0}
 use Rattle.temperature.proofs.Ranged.{all_ranged}
 use Rattle.window.proofs.Taken.{into_bad, into_short, into_front}
 use Rattle.window.proofs.Window.means.Goals as goal
@@ -19,7 +19,7 @@ none c = sym (code_is _ _ c.in_ok-first_bad.ensures)
 pub returns-in_err-first_bad-clause-out_after : goal.returns-in_err-first_bad-clause-out_after
 returns-in_err-first_bad-clause-out_after c =
     let a = c.args in
-    into_bad a.m a.self a.guard a.samples.now a.out.now (λ z. some_code _ (code_is _ _ c.in_err-first_bad.ensures ∙ z))
+    into_bad a.m a.self a.guard a.samples.now a.out.now (λ z. refused_not_0 _ (code_is _ _ c.in_err-first_bad.ensures ∙ z))
 
 pub returns-then-out-samples-clause-out_after : goal.returns-then-out-samples-clause-out_after
 returns-then-out-samples-clause-out_after c =
