@@ -18,8 +18,8 @@ use Rattle.pid.specs.Law.{step_of}
 use Rattle.command.specs.Sequence.{after, each}
 use Rattle.pid.specs.Run.{accepted, unbroken, shares}
 use Rattle.pid.proofs.Shares.{run_shares}
-use Rattle.memory.specs.declared.Last.{Last}
-use Rattle.memory.specs.declared.Last.TheVariants.{Nothing, Kept as Last-as-Kept}
+use Rattle.std.specs.declared.option.Option.{Option}
+use Rattle.std.specs.declared.option.Option.TheVariants.{None, Some}
 use Rattle.memory.specs.declared.Entry.{Entry}
 use Rattle.memory.specs.Memory.{window, entry_of, no_entry, holds_ok, entries_ok}
 use Rattle.memory.specs.Walk.{Kept, Walk, keeps, kept_answer, keeping, onward, answer_to, kept}
@@ -63,11 +63,11 @@ end_after w ds g r =
 
 module _ (lo hi : ℤ) where
   -- past the last number every place is blank
-  blank_at : (l : Last) (output : ℤ) (es : List Entry) → holds_ok false lo hi l output ≡ true → places (length es) [] ≡ es →
+  blank_at : (l : Option Command) (output : ℤ) (es : List Entry) → holds_ok false lo hi l output ≡ true → places (length es) [] ≡ es →
       no_entry ∷ places (length es) [] ≡ record { command = l; output = output } ∷ es
-  blank_at Nothing output es h e =
-      ap₂ (λ (x : ℤ) (xs : List Entry). record { command = Nothing; output = x } ∷ xs) (sym (eq_z_yes output (pos 0) h)) e
-  blank_at (Last-as-Kept c) output es h e = never h
+  blank_at None output es h e =
+      ap₂ (λ (x : ℤ) (xs : List Entry). record { command = None; output = x } ∷ xs) (sym (eq_z_yes output (pos 0) h)) e
+  blank_at (Some c) output es h e = never h
 
   all_blank : (es : List Entry) → entries_ok 0 lo hi es ≡ true → places (length es) [] ≡ es
   unfolding places
@@ -80,17 +80,17 @@ module _ (lo hi : ℤ) where
   abbrev Recalls : ℕ → List Entry → List (Kept plain) → Type 0
   Recalls m es ks = (places (length es) ks ≡ es) × Runs plain (length es) m ks × AllIn lo hi ks
 
-  zero_recalls : (l : Last) (output : ℤ) (es : List Entry) (older : List (Kept plain)) → holds_ok false lo hi l output ≡ true →
+  zero_recalls : (l : Option Command) (output : ℤ) (es : List Entry) (older : List (Kept plain)) → holds_ok false lo hi l output ≡ true →
       entries_ok 0 lo hi es ≡ true → Recalls 0 (record { command = l; output = output } ∷ es) (recalled_by l output 0 older)
   unfolding places
-  zero_recalls Nothing output es older h f = (blank_at Nothing output es h (all_blank es f), refl, refl)
-  zero_recalls (Last-as-Kept c) output es older h f = never h
+  zero_recalls None output es older h f = (blank_at None output es h (all_blank es f), refl, refl)
+  zero_recalls (Some c) output es older h f = never h
 
-  suc_recalls : (m : ℕ) (l : Last) (output : ℤ) (es : List Entry) (older : List (Kept plain)) → holds_ok true lo hi l output ≡ true →
+  suc_recalls : (m : ℕ) (l : Option Command) (output : ℤ) (es : List Entry) (older : List (Kept plain)) → holds_ok true lo hi l output ≡ true →
       Recalls m es older → Recalls (suc m) (record { command = l; output = output } ∷ es) (recalled_by l output (suc m) older)
   unfolding places
-  suc_recalls m Nothing output es older h r = never h
-  suc_recalls m (Last-as-Kept c) output es older h r = (ap (λ (xs : List Entry). entry_of c output ∷ xs) r.0, (refl, refl, r.1), (h, r.2))
+  suc_recalls m None output es older h r = never h
+  suc_recalls m (Some c) output es older h r = (ap (λ (xs : List Entry). entry_of c output ∷ xs) r.0, (refl, refl, r.1), (h, r.2))
 
   recalls : (m : ℕ) (es : List Entry) → entries_ok m lo hi es ≡ true → Recalls m es (recalled m es)
   unfolding places recalled

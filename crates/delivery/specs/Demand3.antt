@@ -6,15 +6,13 @@
 --
 -- The walk stands in memory/specs/Walk.antt, over any law; here are 01's plain law, what `deliver` makes of a list, and the
 -- demand itself.
-use Rattle.std.specs.Prelude.{ℕ, ◌+◌, ◌-◌, ◌≡◌, List, [], ◌∷◌, ℤ, length, take}
+use Rattle.std.specs.Prelude.{ℕ, ◌+◌, ◌-◌, ◌≡◌, List, [], ◌∷◌, Option, Some, None, ℤ, length, take}
 use Rattle.command.specs.declared.Command.{Command}
 use Rattle.command.specs.Command.{same}
 use Rattle.record.specs.declared.Loop.{Loop}
 use Rattle.record.specs.Refusals.{refusal_of}
 use Rattle.pid.specs.Law.{step_of}
 use Rattle.command.specs.Sequence.{after, each}
-use Rattle.memory.specs.declared.Last.{Last}
-use Rattle.memory.specs.declared.Last.TheVariants.{Nothing, Kept as Last-as-Kept}
 use Rattle.memory.specs.declared.Entry.{Entry}
 use Rattle.memory.specs.Memory.{window, entry_of, newest}
 use Rattle.memory.specs.Walk.{Law, Delivery, Answer, Kept, Walk, onward, answer_to, kept}
@@ -66,9 +64,9 @@ pub record Demand3 (s : Numbered) (w : Walk plain) (ds : List (Delivery Command)
 -- ---- where a walk stands that has come to a record that keeps the state rules, also to one never reached
 
 -- an entry of number m as a kept delivery with its answer, before those that are older
-abbrev pub recalled_by : Last → ℤ → ℕ → List (Kept plain) → List (Kept plain)
-recalled_by Nothing output m older = []
-recalled_by (Last-as-Kept c) output m older =
+abbrev pub recalled_by : Option Command → ℤ → ℕ → List (Kept plain) → List (Kept plain)
+recalled_by None output m older = []
+recalled_by (Some c) output m older =
     record { sent = record { number = m; command = c }; answer = record { code = 0; output = output; number = m } } ∷ older
 
 -- the last kept deliveries, as a memory whose newest has number m remembers them

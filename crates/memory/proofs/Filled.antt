@@ -91,8 +91,8 @@ module _ (old : List Entry) (pvs us : List ℤ) (n i : ℕ) (e : n ≡ min (leng
       let long : length (entries_of pvs us) ≡ n = entries_length pvs us ∙ sym e in
       ap (λ (k : ℕ). get_or old (i - k) no_entry) (sym long) ∙ sym (newest_old old (entries_of pvs us) i (omega (arith, long)))
 
-pub places_enough : (old es : List Entry) (i : ℕ) → i < length old → i < length (newest old es)
-places_enough old es i h = rw (newest_length old es) (omega arith)
+pub places_enough : (old es : List Entry) (n : ℕ) → length old ≡ n → n ≤ length (newest old es)
+places_enough old es n e = rw (newest_length old es) (omega arith)
 
 -- ---- one by one
 

@@ -7,22 +7,22 @@ use borrow.Author.Tests.{eq-eqb, ne_eqb, lt-ltb, le-ltb, le-leb, lt-leb, eqb-fal
 use lib.Dec.{eqb, ltb, leb}
 use lib.IntN.{ℤ}
 use Rattle.whole.proofs.Truth.{never, chosen}
+use Rattle.std.specs.declared.option.Option.{Option}
+use Rattle.std.specs.declared.option.Option.TheVariants.{None, Some}
 use Rattle.command.specs.declared.Command.{Command}
 use Rattle.command.proofs.Same.{same_equal, same_self}
-use Rattle.memory.specs.declared.Last.{Last}
-use Rattle.memory.specs.declared.Last.TheVariants.{Nothing, Kept}
 use Rattle.memory.specs.declared.Memory.{Memory}
 use Rattle.memory.specs.declared.Found.{Found}
 use Rattle.memory.specs.declared.Found.TheVariants.{Old, Reused, Repeated, Ahead, Next}
 use Rattle.memory.specs.Memory.{window, entry_of, is_last, found_in, found_by, entry_at, found_of, remembered}
 
 -- a command is the one kept exactly where it is equal to it, values and all
-pub last_is : (l : Last) (c : Command) → is_last l c ≡ true → l ≡ Kept c
+pub last_is : (l : Option Command) (c : Command) → is_last l c ≡ true → l ≡ Some c
 unfolding is_last
-last_is Nothing c e = never e
-last_is (Kept d) c e = ap Kept (same_equal d c e)
+last_is None c e = never e
+last_is (Some d) c e = ap Some (same_equal d c e)
 
-pub is_last_lem : (l : Last) (c : Command) → l ≡ Kept c → is_last l c ≡ true
+pub is_last_lem : (l : Option Command) (c : Command) → l ≡ Some c → is_last l c ≡ true
 unfolding is_last
 is_last_lem l c e = rw e (same_self c)
 

@@ -1,12 +1,10 @@
 -- 01, "Numbered delivery", amended by 02's request 6: what is remembered, and the order of the numbers. No loop is looked into
 -- here.
-use Rattle.std.specs.Prelude.{ℕ, ◌+◌, ◌-◌, Bool, true, false, not, cond, ◌&&◌, ◌||◌, List, [], ◌∷◌, eqb, ltb, leb, ℤ, pos, length, take, get_or, replicate}
+use Rattle.std.specs.Prelude.{ℕ, ◌+◌, ◌-◌, Bool, true, false, not, cond, ◌&&◌, ◌||◌, List, [], ◌∷◌, Option, Some, None, eqb, ltb, leb, ℤ, pos, length, take, get_or, replicate}
 use Rattle.whole.specs.Numbers.{eq_z, inside}
 use Rattle.command.specs.declared.Command.{Command}
 use Rattle.command.specs.declared.Command.TheVariants.{Sample}
 use Rattle.command.specs.Command.{same}
-use Rattle.memory.specs.declared.Last.{Last}
-use Rattle.memory.specs.declared.Last.TheVariants.{Nothing, Kept}
 use Rattle.memory.specs.declared.Entry.{Entry}
 use Rattle.memory.specs.declared.Memory.{Memory}
 use Rattle.memory.specs.declared.Found.{Found}
@@ -23,11 +21,11 @@ unfoldable pub window : ℕ
 window = 32
 
 abbrev pub entry_of : Command → ℤ → Entry
-entry_of c output = record { command = Kept c; output = output }
+entry_of c output = record { command = Some c; output = output }
 
 -- "unused places are blank"
 abbrev pub no_entry : Entry
-no_entry = record { command = Nothing; output = pos 0 }
+no_entry = record { command = None; output = pos 0 }
 
 -- "last number 0", and no command is kept
 abbrev pub no_memory : Memory
@@ -54,9 +52,9 @@ filled_of m number pvs us = record { number = number; entries = take window (new
 -- ---- the state rules
 
 -- a place that is used: it has a command, and "their outputs lie in lo..hi". One that is not: "unused places are blank"
-abbrev pub holds_ok : Bool → ℤ → ℤ → Last → ℤ → Bool
-holds_ok used lo hi Nothing output = not used && eq_z output (pos 0)
-holds_ok used lo hi (Kept c) output = used && inside lo hi output
+abbrev pub holds_ok : Bool → ℤ → ℤ → Option Command → ℤ → Bool
+holds_ok used lo hi None output = not used && eq_z output (pos 0)
+holds_ok used lo hi (Some c) output = used && inside lo hi output
 
 abbrev pub entry_ok : Bool → ℤ → ℤ → Entry → Bool
 entry_ok used lo hi e = holds_ok used lo hi e.command e.output
@@ -75,9 +73,9 @@ memory_ok lo hi m = eqb (length m.entries) window && entries_ok m.number lo hi m
 -- ---- what becomes of a delivery
 
 -- whether c is the command kept, with same values
-unfoldable pub is_last : Last → Command → Bool
-is_last Nothing c = false
-is_last (Kept d) c = same d c
+unfoldable pub is_last : Option Command → Command → Bool
+is_last None c = false
+is_last (Some d) c = same d c
 
 -- of the entry that a number in the window has:
 --   Repeated: "A repeat of any of them, same number and values"

@@ -18,8 +18,8 @@ use Rattle.record.specs.Record.{valid}
 use Rattle.record.specs.Refusals.{refusal_of}
 use Rattle.record.proofs.Rules.{Holds, holds_of}
 use Rattle.pid.specs.Law.{step_of}
-use Rattle.memory.specs.declared.Last.{Last}
-use Rattle.memory.specs.declared.Last.TheVariants.{Nothing, Kept}
+use Rattle.std.specs.declared.option.Option.{Option}
+use Rattle.std.specs.declared.option.Option.TheVariants.{None, Some}
 use Rattle.memory.specs.declared.Found.{Found}
 use Rattle.memory.specs.declared.Found.TheVariants.{Old, Reused, Repeated, Ahead, Next}
 use Rattle.memory.specs.declared.Entry.{Entry}
@@ -51,10 +51,10 @@ same_mirror k a b =
 
 -- ---- one delivery
 
-is_last_mirror : (k : Mirror) (m : Last) (c : Command) → is_last (flip_last k m) (flip_command k c) ≡ is_last m c
+is_last_mirror : (k : Mirror) (m : Option Command) (c : Command) → is_last (flip_last k m) (flip_command k c) ≡ is_last m c
 unfolding is_last
-is_last_mirror k Nothing c = refl
-is_last_mirror k (Kept d) c = same_mirror k d c
+is_last_mirror k None c = refl
+is_last_mirror k (Some d) c = same_mirror k d c
 
 -- what is found, with the entry that is its mirror image
 abbrev flip_found : Mirror → Found → Found
@@ -81,9 +81,9 @@ found_mirror k m n c =
     (ap (λ (e : Entry). found_in e (flip_command k c)) (get_or-map (flip_entry k) m.entries (m.number - n) no_entry) ∙ in_mirror k (entry_at m n) c)
     ∙ by_mirror k n m.number (found_in (entry_at m n) c)
 
-holds_mirror : (k : Mirror) (used : Bool) (lo hi : ℤ) (m : Last) (u : ℤ) → holds_ok used (neg_ℤ hi) (neg_ℤ lo) (flip_last k m) (neg_ℤ u) ≡ holds_ok used lo hi m u
-holds_mirror k used lo hi Nothing u = rw (eq_z_neg u (pos 0))
-holds_mirror k used lo hi (Kept c) u = rw (inside_neg lo hi u)
+holds_mirror : (k : Mirror) (used : Bool) (lo hi : ℤ) (m : Option Command) (u : ℤ) → holds_ok used (neg_ℤ hi) (neg_ℤ lo) (flip_last k m) (neg_ℤ u) ≡ holds_ok used lo hi m u
+holds_mirror k used lo hi None u = rw (eq_z_neg u (pos 0))
+holds_mirror k used lo hi (Some c) u = rw (inside_neg lo hi u)
 
 entries_mirror : (k : Mirror) (n : ℕ) (lo hi : ℤ) (es : List Entry) → entries_ok n (neg_ℤ hi) (neg_ℤ lo) (map (flip_entry k) es) ≡ entries_ok n lo hi es
 entries_mirror k n lo hi [] = refl

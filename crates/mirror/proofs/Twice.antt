@@ -8,8 +8,8 @@ use Rattle.whole.proofs.Lin.{Lin, at, lins}
 use Rattle.command.specs.declared.Command.{Command}
 use Rattle.command.specs.declared.Command.TheVariants.{Sample, Hold, Put, Automatic, Target, Set}
 use Rattle.record.specs.declared.Loop.{Loop}
-use Rattle.memory.specs.declared.Last.{Last}
-use Rattle.memory.specs.declared.Last.TheVariants.{Nothing, Kept}
+use Rattle.std.specs.declared.option.Option.{Option}
+use Rattle.std.specs.declared.option.Option.TheVariants.{None, Some}
 use Rattle.memory.specs.declared.Entry.{Entry}
 use Rattle.delivery.specs.declared.numbered.Numbered.{Numbered}
 use Rattle.mirror.specs.Mirror.{Mirror, of_action, of_temperatures, flip_temperature, flip_action, flip_command, flip_loop, flip_last, flip_entry, flip_numbered}
@@ -37,9 +37,9 @@ command_twice k Automatic = refl
 command_twice k (Target t r) = cc (temperature_twice k t)
 command_twice k (Set n) = refl
 
-last_twice : (k : Mirror) (m : Last) → flip_last k (flip_last k m) ≡ m
-last_twice k Nothing = refl
-last_twice k (Kept c) = cc (command_twice k c)
+last_twice : (k : Mirror) (m : Option Command) → flip_last k (flip_last k m) ≡ m
+last_twice k None = refl
+last_twice k (Some c) = cc (command_twice k c)
 
 loop_twice : (k : Mirror) (l : Loop) → flip_loop k (flip_loop k l) ≡ l
 loop_twice k l = simp twices

@@ -1,5 +1,5 @@
 -- 02, request 3: mirrored loops. What each mirror makes of a number, of a command, of a record and of an answer.
-use Rattle.std.specs.Prelude.{◌≡◌, map, ℤ, pos, negsuc, neg_ℤ, ◌-ℤ◌}
+use Rattle.std.specs.Prelude.{◌≡◌, map, Option, Some, None, ℤ, pos, negsuc, neg_ℤ, ◌-ℤ◌}
 use Rattle.std.specs.Int.{w32}
 use Rattle.std.proofs.Common.{SFits}
 use Rattle.settings.specs.declared.Settings.{Settings}
@@ -10,8 +10,6 @@ use Rattle.window.specs.declared.Window.{Window}
 use Rattle.record.specs.declared.Loop.{Loop}
 use Rattle.pid.specs.declared.law.Obeyed.{Obeyed}
 use Rattle.pid.specs.declared.play.Played.{Played}
-use Rattle.memory.specs.declared.Last.{Last}
-use Rattle.memory.specs.declared.Last.TheVariants.{Nothing, Kept}
 use Rattle.memory.specs.declared.Entry.{Entry}
 use Rattle.memory.specs.declared.Memory.{Memory}
 use Rattle.memory.specs.Walk.{Delivery, Answer}
@@ -92,9 +90,9 @@ flip_played k r = record { code = r.code; place = r.place; state = flip_loop k r
 
 -- ---- numbered delivery: the same codes, the same numbers
 
-abbrev pub flip_last : Mirror → Last → Last
-flip_last k Nothing = Nothing
-flip_last k (Kept c) = Kept (flip_command k c)
+abbrev pub flip_last : Mirror → Option Command → Option Command
+flip_last k None = None
+flip_last k (Some c) = Some (flip_command k c)
 
 -- the output that a command was answered changes sign as every output does
 abbrev pub flip_entry : Mirror → Entry → Entry

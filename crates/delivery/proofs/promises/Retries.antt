@@ -25,7 +25,7 @@ use Rattle.pid.specs.Sample.{lesser, greater, limited, ramped, filtered, derivat
 use Rattle.pid.specs.Law.{sample_of, step_of}
 use Rattle.pid.specs.Play.{outputs_of}
 use Rattle.pid.proofs.Plays.{good_first}
-use Rattle.memory.specs.declared.Last.TheVariants.{Kept}
+use Rattle.std.specs.declared.option.Option.TheVariants.{Some}
 use Rattle.memory.specs.declared.Entry.{Entry}
 use Rattle.memory.specs.Memory.{window, last_number, remembered, filled_of, memory_ok as memory_rules, is_last, found_in, found_by, entry_at}
 use Rattle.memory.specs.Walk.{Delivery, kept}
@@ -102,12 +102,12 @@ first_answer_again s e before d since k b =
 
 module _ (s : Numbered) (n : ℕ) (c : Command) (v : valid_of s ≡ true) where
   -- "A repeat of any of them, same number and values, gets its first answer again: code 0, that output and its own number."
-  pub repeat_served : InWindow n s.memory.number → (entry_at s.memory n).command ≡ Kept c →
+  pub repeat_served : InWindow n s.memory.number → (entry_at s.memory n).command ≡ Some c →
       delivered_of s n c ≡ record { code = 0; output = (entry_at s.memory n).output; number = n; state = s }
   repeat_served i e = repeat_one s n c v i (is_last_lem (entry_at s.memory n).command c e)
 
   -- "A number in that window with other values is 2"
-  pub other_values : InWindow n s.memory.number → ((entry_at s.memory n).command ≡ Kept c → ⊥) → delivered_of s n c ≡ answer_of 2 s
+  pub other_values : InWindow n s.memory.number → ((entry_at s.memory n).command ≡ Some c → ⊥) → delivered_of s n c ≡ answer_of 2 s
   other_values i f =
       by_test (is_last (entry_at s.memory n).command c)
       (λ e. absurd (f (last_is (entry_at s.memory n).command c e))) (λ e. reused_one s n c v i e)
@@ -121,9 +121,9 @@ module _ (s : Numbered) (n : ℕ) (c : Command) (v : valid_of s ≡ true) where
 
 -- "This amends 01 on what is served after number 4,294,967,295": the last 32, which `repeat_served` serves, and no other
 pub last_number_lem : (s : Numbered) (n : ℕ) (c : Command) → s.memory.number ≡ last_number → n ≤ last_number → (delivered_of s n c).code ≡ 0 →
-    InWindow n s.memory.number × ((entry_at s.memory n).command ≡ Kept c)
+    InWindow n s.memory.number × ((entry_at s.memory n).command ≡ Some c)
 last_number_lem s n c e h =
-    by_delivery_lem (λ (r : Delivered). r.code ≡ 0 → InWindow n s.memory.number × ((entry_at s.memory n).command ≡ Kept c)) s n c
+    by_delivery_lem (λ (r : Delivered). r.code ≡ 0 → InWindow n s.memory.number × ((entry_at s.memory n).command ≡ Some c)) s n c
     (λ _ z. absurd (omega (arith, z))) (λ _ _ f z. absurd (f z))
     (λ _ x i q t _. (i, ap (λ (y : Entry). y.command) (sym q) ∙ last_is x.command c t))
     (λ _ q _ _. absurd (omega (arith, q)))

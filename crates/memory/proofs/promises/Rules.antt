@@ -11,9 +11,9 @@ use lib.ListN.{length, get_or}
 use Rattle.whole.specs.Numbers.{inside}
 use Rattle.whole.proofs.Truth.{never, and, both, by_test}
 use Rattle.whole.proofs.Parts.{eq_z_yes}
+use Rattle.std.specs.declared.option.Option.{Option}
+use Rattle.std.specs.declared.option.Option.TheVariants.{None, Some}
 use Rattle.command.specs.declared.Command.{Command}
-use Rattle.memory.specs.declared.Last.{Last}
-use Rattle.memory.specs.declared.Last.TheVariants.{Nothing, Kept}
 use Rattle.memory.specs.declared.Entry.{Entry}
 use Rattle.memory.specs.declared.Memory.{Memory}
 use Rattle.memory.specs.Memory.{window, no_entry, holds_ok, entry_ok, entries_ok, memory_ok}
@@ -22,7 +22,7 @@ use Rattle.memory.proofs.Rules.{places_long, places_ok_lem}
 -- an entry that is held: it has a command, and its output lies in lo..hi
 pub record Holds (lo hi : ℤ) (e : Entry) : Type 0 where
   pub command : Command
-  pub has : e.command ≡ Kept command
+  pub has : e.command ≡ Some command
   pub output : inside lo hi e.output ≡ true
 
 -- what stands at place i, which has the last number less i
@@ -61,13 +61,13 @@ module _ (lo hi : ℤ) where
 
   -- ---- one entry
 
-  used_only : (l : Last) (u : ℤ) → holds_ok true lo hi l u ≡ true → Holds lo hi (record { command = l; output = u })
-  used_only Nothing u h = never h
-  used_only (Kept c) u h = record { command = c; has = refl; output = h }
+  used_only : (l : Option Command) (u : ℤ) → holds_ok true lo hi l u ≡ true → Holds lo hi (record { command = l; output = u })
+  used_only None u h = never h
+  used_only (Some c) u h = record { command = c; has = refl; output = h }
 
-  unused_only : (l : Last) (u : ℤ) → holds_ok false lo hi l u ≡ true → record { command = l; output = u } ≡ no_entry
-  unused_only Nothing u h = ap (λ (x : ℤ). record { command = Nothing; output = x }) (eq_z_yes u (pos 0) h)
-  unused_only (Kept c) u h = never h
+  unused_only : (l : Option Command) (u : ℤ) → holds_ok false lo hi l u ≡ true → record { command = l; output = u } ≡ no_entry
+  unused_only None u h = ap (λ (x : ℤ). record { command = None; output = x }) (eq_z_yes u (pos 0) h)
+  unused_only (Some c) u h = never h
 
   used_when : (e : Entry) → Holds lo hi e → entry_ok true lo hi e ≡ true
   used_when e h = rw h.has h.output
