@@ -11,6 +11,7 @@ use lib.ListN.{length}
 use lib.Seq.{take_all}
 use Rattle.whole.proofs.Truth.{never, and, both, by_test}
 use Rattle.whole.proofs.Parts.{eq_z_yes}
+use Rattle.command.specs.declared.Command.{Command}
 use Rattle.record.specs.declared.Loop.{Loop}
 use Rattle.record.specs.Record.{valid}
 use Rattle.record.specs.Refusals.{refusal_of}
