@@ -1,3 +1,4 @@
 pub mod Rows
 pub mod Longest
 pub mod Writes
+pub mod promises

@@ -14,7 +14,7 @@ use Rattle.whole.proofs.Parts.{zs, yes_le}
 use Rattle.whole.proofs.Lin.{Lin, at, lin_add, lin_pos}
 use Rattle.settings.specs.declared.table.Row.{Row}
 use Rattle.settings.specs.declared.Settings.{Settings}
-use Rattle.settings.specs.Table.{first_rows, head_rows, gain_rows, sets, short_sets, firsts, keys, numbered, set_rows, each, numbers_from, rows_of, rows, picked, no_row, in_row}
+use Rattle.settings.specs.Table.{first_rows, head_rows, gain_rows, sets, short_sets, firsts, keys, numbered, set_rows, each, numbers_from, rows_of, rows, picked, no_row, in_row, key_of}
 use Rattle.settings.specs.Settings.{all_in, in_table, ordered, values_of}
 use Rattle.settings.proofs.Lists.{all}
 use Rattle.settings.proofs.Rows.{rows_long, values_long}
@@ -22,7 +22,7 @@ use Rattle.settings.proofs.Ranges.{all_at, rows_front}
 use Rattle.settings.proofs.Forms.{rows_picked, picked_in}
 use Rattle.word.specs.Decimal.{shown, decimal}
 use Rattle.word.proofs.Widths.{width}
-use Rattle.writer.specs.Lines.{key_of, lines_of, Headed, both_lines, mean_alone, neither_line, Gained, full, short, text_for, longest_later, longest_for}
+use Rattle.writer.specs.Lines.{lines_of, Headed, both_lines, mean_alone, neither_line, Gained, full, short, text_for, longest_later, longest_for}
 use Rattle.writer.proofs.Rows.{lettered, gains_lettered, key_numbered, headed}
 
 -- ---- lines
@@ -30,14 +30,14 @@ use Rattle.writer.proofs.Rows.{lettered, gains_lettered, key_numbered, headed}
 -- the most bytes of the rows' lines
 abbrev longest_of : List Row → ℕ
 longest_of [] = 0
-longest_of (r ∷ rs) = length (key_of r) + max (length (decimal r.2)) (length (decimal r.3)) + 1 + longest_of rs
+longest_of (r ∷ rs) = length (key_of r) + max (length (decimal r.least)) (length (decimal r.most)) + 1 + longest_of rs
 
 lines_long : (rs : List Row) (vs : List ℤ) → all_in rs vs ≡ true → length (lines_of rs vs) ≤ longest_of rs
 lines_long [] vs e = omega arith
 lines_long (r ∷ rs) [] e = never e
 lines_long (r ∷ rs) (z ∷ vs) e =
     let b = both (in_row r z) (all_in rs vs) e in
-    let w = width r.2 r.3 z b.0 in
+    let w = width r.least r.most z b.0 in
     let h = lines_long rs vs b.1 in
     simp length-append (omega arith)
 
@@ -90,10 +90,10 @@ above least lo hi p q = let a : Lin (least +ℤ pos 1) = lin_add (at least) lin_
 -- the row of hi, and what its least value then is
 abbrev hi_row : Row
 hi_row = record {
-  0 = (get_or head_rows 2 no_row).0;
-  1 = (get_or head_rows 2 no_row).1;
-  2 = (get_or head_rows 1 no_row).2 +ℤ pos 1;
-  3 = (get_or head_rows 2 no_row).3;
+  key = (get_or head_rows 2 no_row).key;
+  len = (get_or head_rows 2 no_row).len;
+  least = (get_or head_rows 1 no_row).least +ℤ pos 1;
+  most = (get_or head_rows 2 no_row).most;
 }
 
 -- with the lines of h rows before the gain sets
@@ -119,10 +119,10 @@ module _ (h n : ℕ) (s : Settings) (a : Headed h) (m : n ≤ sets) (g : length 
   hi_in =
       let lo = all_at rows (values_of s) e 1 (omega (arith, rows_long sets)) in
       let hi = all_at rows (values_of s) e 2 (omega (arith, rows_long sets)) in
-      let lo-least = (both (le_z (get_or head_rows 1 no_row).2 s.lo) (le_z s.lo (get_or head_rows 1 no_row).3) lo).0 in
-      let hi-most = (both (le_z (get_or head_rows 2 no_row).2 s.hi) (le_z s.hi (get_or head_rows 2 no_row).3) hi).1 in
+      let lo-least = (both (le_z (get_or head_rows 1 no_row).least s.lo) (le_z s.lo (get_or head_rows 1 no_row).most) lo).0 in
+      let hi-most = (both (le_z (get_or head_rows 2 no_row).least s.hi) (le_z s.hi (get_or head_rows 2 no_row).most) hi).1 in
       let lower = (both (lt_z s.lo s.hi) (inside s.lo s.hi s.out) o).0 in
-      and (above (get_or head_rows 1 no_row).2 s.lo s.hi lo-least lower) hi-most
+      and (above (get_or head_rows 1 no_row).least s.lo s.hi lo-least lower) hi-most
 
   hi_at : (h : ℕ) → Headed h → get_or (picked h (values_of s)) 2 (pos 0) ≡ s.hi
   hi_at h both_lines = refl

@@ -14,7 +14,7 @@ use Rattle.whole.specs.Words.{bytes}
 use Rattle.whole.proofs.Truth.{both, and, chosen}
 use Rattle.whole.proofs.Lists.{next}
 use Rattle.settings.specs.declared.table.Row.{Row}
-use Rattle.settings.specs.Table.{longest_key, head_rows, gain_rows, firsts, heads, sets, short_sets, lines_for, lines, numbered, set_rows, each, numbers_from, rows_of, rows, picked, place_of, no_row}
+use Rattle.settings.specs.Table.{longest_key, head_rows, gain_rows, firsts, heads, sets, short_sets, lines_for, lines, numbered, set_rows, each, numbers_from, rows_of, rows, picked, place_of, no_row, key_of}
 use Rattle.settings.specs.declared.Settings.{Settings}
 use Rattle.settings.specs.Settings.{values_of}
 use Rattle.settings.proofs.Lists.{all, all_at, all_both, all_take, all_drop}
@@ -25,7 +25,7 @@ use Rattle.word.specs.End.{feed}
 use Rattle.word.proofs.Words.{without, without_both}
 use Rattle.word.proofs.Digits.{digit}
 use Rattle.word.proofs.Decimals.{shown_form}
-use Rattle.writer.specs.Lines.{key_of, line_of, lines_of, Headed, both_lines, mean_alone, neither_line, Gained, full, short, text_for, text_of}
+use Rattle.writer.specs.Lines.{line_of, lines_of, Headed, both_lines, mean_alone, neither_line, Gained, full, short, text_for, text_of}
 
 -- ---- bytes without a line feed
 
@@ -46,33 +46,37 @@ plain_shown n = plain_digits (shown n) (shown_form n).all
 
 -- a row that fits the lines: a key of at most so many bytes and no line feed, and only numbers of at most 7 digits in its range
 abbrev in_digits : Row → Bool
-in_digits r = le_z (negsuc 9999998) r.2 && le_z r.3 (pos 9999999)
+in_digits r = le_z (negsuc 9999998) r.least && le_z r.most (pos 9999999)
 
 abbrev pub lined : Row → Bool
-lined r = leb r.1 longest_key && (plain (key_of r) && in_digits r)
+lined r = leb r.len longest_key && (plain (key_of r) && in_digits r)
 
 pub record Lined (r : Row) : Type 0 where
-  pub short : r.1 ≤ longest_key
+  pub short : r.len ≤ longest_key
   pub key : plain (key_of r) ≡ true
-  pub least : le_z (negsuc 9999998) r.2 ≡ true
-  pub most : le_z r.3 (pos 9999999) ≡ true
+  pub least : le_z (negsuc 9999998) r.least ≡ true
+  pub most : le_z r.most (pos 9999999) ≡ true
 
 pub is_lined : (r : Row) → lined r ≡ true → Lined r
 is_lined r e =
-    let b = both (leb r.1 longest_key) (plain (key_of r) && in_digits r) e in
+    let b = both (leb r.len longest_key) (plain (key_of r) && in_digits r) e in
     let p = both (plain (key_of r)) (in_digits r) b.1 in
-    let n = both (le_z (negsuc 9999998) r.2) (le_z r.3 (pos 9999999)) p.1 in
-    record { short = leb-true r.1 longest_key b.0; key = p.0; least = n.0; most = n.1 }
+    let n = both (le_z (negsuc 9999998) r.least) (le_z r.most (pos 9999999)) p.1 in
+    record { short = leb-true r.len longest_key b.0; key = p.0; least = n.0; most = n.1 }
 
 -- a key has as many bytes as its row says
-pub key_length : (r : Row) → length r.0 ≡ longest_key → r.1 ≤ longest_key → length (key_of r) ≡ r.1
+pub key_length : (r : Row) → length r.key ≡ longest_key → r.len ≤ longest_key → length (key_of r) ≡ r.len
 key_length r e h = simp length-take (omega arith)
+
+-- and no key has more than there is room for
+pub key_few : (r : Row) → length r.key ≡ longest_key → length (key_of r) ≤ longest_key
+key_few r e = simp length-take (omega arith)
 
 -- ---- a row of the gain sets'
 
 -- after its letters there is room for two digits and the `=`
 abbrev pub lettered : Row → Bool
-lettered r = (leb (r.1 + 3) longest_key && eqb (length r.0) longest_key) && lined r
+lettered r = (leb (r.len + 3) longest_key && eqb (length r.key) longest_key) && lined r
 
 pub gains_lettered : all lettered gain_rows ≡ true
 gains_lettered = refl
@@ -83,17 +87,17 @@ number_short k h = (shown_form k).few 2 (omega arith) (omega arith)
 module _ (k : ℕ) (h : k < sets) where
   module _ (r : Row) (l : lettered r ≡ true) where
     record Room : Type 0 where
-      room : r.1 + 3 ≤ longest_key
-      long : length r.0 ≡ longest_key
+      room : r.len + 3 ≤ longest_key
+      long : length r.key ≡ longest_key
       fit : Lined r
 
     room_left : Room
     room_left =
-        let a = both (leb (r.1 + 3) longest_key && eqb (length r.0) longest_key) (lined r) l in
-        let b = both (leb (r.1 + 3) longest_key) (eqb (length r.0) longest_key) a.0 in
+        let a = both (leb (r.len + 3) longest_key && eqb (length r.key) longest_key) (lined r) l in
+        let b = both (leb (r.len + 3) longest_key) (eqb (length r.key) longest_key) a.0 in
         record {
-          room = leb-true (r.1 + 3) longest_key b.0;
-          long = eqb-true (length r.0) longest_key b.1;
+          room = leb-true (r.len + 3) longest_key b.0;
+          long = eqb-true (length r.key) longest_key b.1;
           fit = is_lined r a.1;
         }
 
@@ -103,17 +107,17 @@ module _ (k : ℕ) (h : k < sets) where
         let w = shown k ++ bytes "=" in
         let t = room_left in
         let n : length w ≡ length (shown k) + 1 = simp length-append in
-        let m : length (key_of r ++ w) ≡ r.1 + (length (shown k) + 1) = length-append (key_of r) w ∙ omega (arith, n, key_length r t.long t.fit.short) in
-        ap (take (r.1 + (length (shown k) + 1)))
-        (sets-eq w r.0 r.1 (omega (arith, n, number_short k h, t.room, t.long)))
-        ∙ take_at (key_of r ++ w) (drop (r.1 + length w) r.0) (r.1 + (length (shown k) + 1)) m
+        let m : length (key_of r ++ w) ≡ r.len + (length (shown k) + 1) = length-append (key_of r) w ∙ omega (arith, n, key_length r t.long t.fit.short) in
+        ap (take (r.len + (length (shown k) + 1)))
+        (sets-eq w r.key r.len (omega (arith, n, number_short k h, t.room, t.long)))
+        ∙ take_at (key_of r ++ w) (drop (r.len + length w) r.key) (r.len + (length (shown k) + 1)) m
 
     numbered_lined : lined (numbered r k) ≡ true
     numbered_lined =
         let t = room_left in
         let f = t.fit in
         let p = without_both feed (key_of r) (shown k ++ bytes "=") f.key (without_both feed (shown k) (bytes "=") (plain_shown k) refl) in
-        and (le-leb (r.1 + (length (shown k) + 1)) longest_key (omega (arith, number_short k h, t.room)))
+        and (le-leb (r.len + (length (shown k) + 1)) longest_key (omega (arith, number_short k h, t.room)))
         (and (ap plain key_numbered ∙ p) (and f.least f.most))
 
   letters_lined : (rs : List Row) → all lettered rs ≡ true → all lined (map (λ r. numbered r k) rs) ≡ true
@@ -131,7 +135,7 @@ rows_lined : (n : ℕ) → n ≤ sets → all lined (rows_of n) ≡ true
 unfolding rows_of
 rows_lined n h = all_both lined head_rows (each set_rows (numbers_from 0 n)) refl (sets_lined 0 n (omega arith))
 
-pub key_short : (i : ℕ) → (get_or rows i no_row).1 ≤ longest_key
+pub key_short : (i : ℕ) → (get_or rows i no_row).len ≤ longest_key
 unfolding no_row
 key_short i = (is_lined (get_or rows i no_row) (all_at lined no_row rows (rows_lined sets (omega arith)) refl i)).short
 

@@ -12,6 +12,11 @@ use lib.Seq.{sets}
 use mir.Syntax.{w32}
 use mir.Val.{SFits}
 use Rattle.whole.proofs.Truth.{zero_if, zero_else, zero_then}
+use Rattle.std.specs.Prelude.{Result, Ok, Err}
+use Rattle.refusal.specs.declared.Refusal.{Refusal}
+use Rattle.refusal.specs.declared.Refusal.TheVariants.{ShortBuffer}
+use Rattle.refusal.specs.Refusal.{code_for}
+use Rattle.refusal.proofs.promises.Codes.{refused_not_0}
 use Rattle.settings.specs.declared.table.Row.{Row}
 use Rattle.settings.specs.declared.Settings.{Settings}
 use Rattle.settings.specs.Table.{longest_key, sets as every}
@@ -20,15 +25,14 @@ use Rattle.word.specs.Decimal.{decimal_room}
 use Rattle.word.specs.End.{feed}
 use Rattle.word.proofs.Shows.{decimal_room_lem}
 use Rattle.word.proofs.Stores.{sets_append}
-use Rattle.writer.specs.declared.Written.{Written}
 use Rattle.writer.specs.Lines.{line_of, Headed, Gained, text_for, text_of, longest_for}
-use Rattle.writer.specs.Writer.{write_code, written_of, buffer_after}
+use Rattle.writer.specs.Writer.{written_told, write_code, written_of, buffer_after}
 use Rattle.writer.proofs.Longest.{text_long}
 
 -- ---- a line
 
 -- a line of the settings is a key, a decimal and a line feed
-pub line_short : (r : Row) (z : ℤ) → r.1 ≤ longest_key → SFits w32 z → length (line_of r z) ≤ longest_key + decimal_room + 1
+pub line_short : (r : Row) (z : ℤ) → r.len ≤ longest_key → SFits w32 z → length (line_of r z) ≤ longest_key + decimal_room + 1
 line_short r z h f = simp (length-append, length-take) (omega (arith, decimal_room_lem z f))
 
 -- a line, put part by part
@@ -42,25 +46,26 @@ line_stored {l₁} {l₂} {l₃} {start} {end} l₀ at key word p q r f g =
 
 module _ (s : Settings) (buffer : List ℕ) where
   -- what the writer answers, and what the buffer then holds
-  pub record Leaves (answer : Written) (after : List ℕ) : Type 0 where
-    pub says : answer ≡ written_of s (length buffer)
+  pub record Leaves (answer : Result ℕ Refusal) (after : List ℕ) : Type 0 where
+    pub says : written_told answer ≡ written_of s (length buffer)
     pub holds : after ≡ buffer_after s buffer
 
-  refuses : (code : ℕ) → (code ≡ 0 → ⊥) → write_code s (length buffer) ≡ code → Leaves (record { code = code; len = 0 }) buffer
+  refuses : (r : Refusal) → write_code s (length buffer) ≡ code_for r → Leaves (Err r) buffer
   unfolding written_of buffer_after
-  refuses code f e = record { says = rw (e, ne_eqb code 0 f); holds = rw (e, ne_eqb code 0 f) }
+  refuses r e =
+      let f = ne_eqb (code_for r) 0 (refused_not_0 r) in
+      record { says = rw (e, f); holds = rw (e, f) }
 
-  pub settings_refused : (code : ℕ) → code ≡ settings_refusal s → (code ≡ 0 → ⊥) → Leaves (record { code = code; len = 0 }) buffer
+  pub settings_refused : (r : Refusal) → code_for r ≡ settings_refusal s → Leaves (Err r) buffer
   unfolding write_code
-  settings_refused code e f = refuses code f (rw (← e, ne_eqb code 0 f))
+  settings_refused r e = refuses r (rw (← e, ne_eqb (code_for r) 0 (refused_not_0 r)))
 
-  pub too_short : settings_refusal s ≡ 0 → length buffer < length (text_of s) → Leaves (record { code = 18; len = 0 }) buffer
+  pub too_short : settings_refusal s ≡ 0 → length buffer < length (text_of s) → Leaves (Err ShortBuffer) buffer
   unfolding write_code
-  too_short e h =
-      refuses 18 (λ z. omega arith) (rw (eq-eqb (settings_refusal s) 0 e, lt-ltb (length buffer) (length (text_of s)) h))
+  too_short e h = refuses ShortBuffer (rw (eq-eqb (settings_refusal s) 0 e, lt-ltb (length buffer) (length (text_of s)) h))
 
   pub fits_in : settings_refusal s ≡ 0 → length (text_of s) ≤ length buffer →
-      Leaves (record { code = 0; len = length (text_of s) }) (text_of s ++ drop (length (text_of s)) buffer)
+      Leaves (Ok (length (text_of s))) (text_of s ++ drop (length (text_of s)) buffer)
   unfolding write_code written_of buffer_after
   fits_in e h =
       let c : write_code s (length buffer) ≡ 0 = rw (eq-eqb (settings_refusal s) 0 e, le-ltb (length buffer) (length (text_of s)) h) in

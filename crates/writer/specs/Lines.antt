@@ -1,15 +1,11 @@
 -- 01, "Settings text", with 02's requests 5, 7 and 8: the text that settings have.
-use Rattle.std.specs.Prelude.{ℕ, ◌+◌, cond, List, [], ◌∷◌, ◌++◌, ltb, eqb, ℤ, take}
+use Rattle.std.specs.Prelude.{ℕ, ◌+◌, cond, List, [], ◌∷◌, ◌++◌, ltb, eqb, ℤ}
 use Rattle.whole.specs.Words.{bytes}
 use Rattle.settings.specs.declared.table.Row.{Row}
 use Rattle.settings.specs.declared.Settings.{Settings}
-use Rattle.settings.specs.Table.{firsts, heads, sets, short_sets, rows_of, picked}
+use Rattle.settings.specs.Table.{firsts, heads, sets, short_sets, rows_of, picked, key_of}
 use Rattle.settings.specs.Settings.{values_of}
 use Rattle.word.specs.Decimal.{decimal}
-
--- the bytes of a row's key, with its `=`
-abbrev pub key_of : Row → List ℕ
-key_of r = take r.1 r.0
 
 -- "each key, `=`, value, one line feed (byte 10)"
 abbrev pub line_of : Row → ℤ → List ℕ

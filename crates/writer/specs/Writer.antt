@@ -1,9 +1,20 @@
 -- 01, "Settings text": what the writer answers, and what it leaves in the buffer.
-use Rattle.std.specs.Prelude.{ℕ, cond, List, ◌++◌, ltb, eqb, length, drop}
+use Rattle.std.specs.Prelude.{ℕ, cond, List, ◌++◌, ltb, eqb, length, drop, Result, Ok, Err}
 use Rattle.settings.specs.declared.Settings.{Settings}
 use Rattle.settings.specs.Settings.{settings_refusal}
-use Rattle.writer.specs.declared.Written.{Written}
+use Rattle.refusal.specs.declared.Refusal.{Refusal}
+use Rattle.refusal.specs.Refusal.{code_for}
 use Rattle.writer.specs.Lines.{text_of}
+
+-- what the writer answers: a code, and the length beside it
+pub record Written : Type 0 where
+  pub code : ℕ
+  pub len : ℕ
+
+-- what the code's result tells of it
+abbrev pub written_told : Result ℕ Refusal → Written
+written_told (Ok n) = record { code = 0; len = n }
+written_told (Err r) = record { code = code_for r; len = 0 }
 
 -- "The writer tests 11, 16, 18", 0 where none is due; the buffer has room bytes
 unfoldable pub write_code : Settings → ℕ → ℕ

@@ -33,12 +33,12 @@ pub loop-i-init : goal.loop-i-init
 loop-i-init c =
     let a = c.args in
     let t = text_whole a.settings in
-    (omega arith, refl, omega arith, ap length t ∙ sym (zero-add (length (lines_of rows (values_of a.settings)))), ap (sets a.buffer.now 0) t)
+    (refl, omega arith, ap length t ∙ sym (zero-add (length (lines_of rows (values_of a.settings)))), ap (sets a.buffer.now 0) t)
 
 pub put_line-at-requires : goal.put_line-at-requires
 put_line-at-requires c =
     let l = c.loop-i in
-    (rw c.at.ensures (key_short l.i), omega (arith, l.invariant.2))
+    omega (arith, l.invariant.1)
 
 pub loop-i-preserved : goal.loop-i-preserved
 loop-i-preserved c =
@@ -53,11 +53,10 @@ loop-i-preserved c =
     let left = lines_of (drop (l.i + 1) rows) (drop (l.i + 1) vs) in
     let q = rest_stored l.buffer l.at (line_of r z) left n t.0 t.1 in
     let short = line_short r z (key_short l.i) f in (
-      omega arith,
-      c.put_line-at.auto.buffer ∙ l.invariant.1,
-      omega (arith, l.invariant.2),
-      l.invariant.3 ∙ q.0,
-      l.invariant.4 ∙ q.1,
+      c.put_line-at.auto.buffer ∙ l.invariant.0,
+      omega (arith, l.invariant.1),
+      l.invariant.2 ∙ q.0,
+      l.invariant.3 ∙ q.1,
     )
 
 pub returns-clause-value : goal.returns-clause-value
@@ -65,11 +64,11 @@ returns-clause-value c =
     let l = c.loop-i in
     let vs = values_of c.args.settings in
     let e = lines_end (drop l.i vs) l.i c.loop-i-test.false in
-    omega (arith, l.invariant.3, ap length e)
+    omega (arith, l.invariant.2, ap length e)
 
 pub returns-clause-buffer_after : goal.returns-clause-buffer_after
 returns-clause-buffer_after c =
     let l = c.loop-i in
     let vs = values_of c.args.settings in
     let e = lines_end (drop l.i vs) l.i c.loop-i-test.false in
-    sym (l.invariant.4 ∙ ap (sets l.buffer l.at) e)
+    sym (l.invariant.3 ∙ ap (sets l.buffer l.at) e)
