@@ -19,29 +19,15 @@ pub struct Window {
     pub seen: usize,
 }
 
-pub(crate) fn lesser(a: usize, b: usize) -> usize
-    ensures { result ≡ min a b }
-{
-    if a < b { a } else { b }
-}
-
 // A temperature that is seen lies in range, and a place that is not filled is zero.
 fn place_ok(filled: bool, x: i32) -> bool
     ensures { result ≡ place_ok filled x }
 {
     if filled {
-        whole::lies_in(-Settings::REACH, Settings::REACH, x)
+        (-Settings::REACH..=Settings::REACH).contains(&x)
     } else {
-        whole::equal(x, 0)
+        x == 0
     }
-}
-
-// How large x is, its sign left aside.
-fn size(x: i64) -> usize
-    requires { Within sum_most x }
-    ensures { result ≡ size x }
-{
-    if x < 0 { (-x) as usize } else { x as usize }
 }
 
 // The mean of n temperatures from their sum. Halves go away from zero: sizes are divided, and the sign is put back.
@@ -52,7 +38,7 @@ pub(crate) fn mean_of(sum: i64, n: usize) -> i32
     if n == 0 {
         return 0;
     }
-    let mean = (size(sum) + n / 2) / n;
+    let mean = (whole::size(sum) + n / 2) / n;
     if sum < 0 {
         -(mean as i64) as i32
     } else {
@@ -66,10 +52,8 @@ pub(crate) fn sum_of(places: &[i32; Settings::WINDOW], n: usize) -> i64
     ensures { result ≡ sum_of (take n places.now) }
 {
     let mut sum: i64 = 0;
-    let mut i: usize = 0;
-    while i < n {
-        sum += places[i] as i64;
-        i += 1;
+    for x in &places[..n] {
+        sum += *x as i64;
     }
     sum
 }
@@ -89,13 +73,9 @@ impl Window {
     pub fn is_valid(self) -> bool
         ensures { result ≡ window_ok self }
     {
-        let places = self.places;
-        let seen = self.seen;
-        let mut ok = seen <= Settings::WINDOW;
-        let mut i: usize = 0;
-        while i < Settings::WINDOW {
-            ok = ok & place_ok(i < seen, places[i]);
-            i += 1;
+        let mut ok = self.seen <= Settings::WINDOW;
+        for (i, x) in self.places.iter().enumerate() {
+            ok &= place_ok(i < self.seen, *x);
         }
         ok
     }
@@ -104,14 +84,10 @@ impl Window {
     pub fn taken(self, pv: i32) -> Window
         ensures { result ≡ taken self pv }
     {
-        let old = self.places;
-        let seen = lesser(self.seen, Settings::WINDOW - 1) + 1;
-        let mut places = [pv; Settings::WINDOW];
-        let mut i: usize = 1;
-        while i < Settings::WINDOW {
-            places[i] = old[i - 1];
-            i += 1;
-        }
+        let mut places = self.places;
+        places.copy_within(..Settings::WINDOW - 1, 1);
+        places[0] = pv;
+        let seen = self.seen.min(Settings::WINDOW - 1) + 1;
         Window { places, seen }
     }
 
@@ -119,7 +95,7 @@ impl Window {
     pub(crate) fn counted(self, m: usize) -> usize
         ensures { result ≡ min m (min self.seen window) }
     {
-        lesser(m, lesser(self.seen, Settings::WINDOW))
+        m.min(self.seen.min(Settings::WINDOW))
     }
 
     // The mean over the last m temperatures, or over those seen.
@@ -127,7 +103,6 @@ impl Window {
         ensures { result ≡ mean_of (latest m self) }
     {
         let n = self.counted(m);
-        let places = self.places;
-        mean_of(sum_of(&places, n), n)
+        mean_of(sum_of(&self.places, n), n)
     }
 }

@@ -8,7 +8,7 @@ ghost use Rattle.window.specs.Bounds.{Bits, summed_of};
 ghost use Rattle.window.specs.Running.{onto, counted_on, means_at};
 ghost use Rattle.window.specs.Window.{sum_of};
 
-use crate::{Window, lesser, mean_of, sum_of};
+use crate::{Window, mean_of, sum_of};
 use settings::Settings;
 use temperature::{Bad, Guard};
 
@@ -68,12 +68,9 @@ fn put_first(
         n,
         sum: sum_of(places, n),
     };
-    let mut i: usize = 0;
-    while i < samples.len() {
+    for i in 0..samples.len() {
         s = next(s, most, places, samples, i);
-        let mean = mean_of(s.sum, s.n);
-        out[i] = mean;
-        i += 1;
+        out[i] = mean_of(s.sum, s.n);
     }
     s
 }
@@ -85,25 +82,9 @@ fn put_rest(start: i32, most: usize, samples: &[i32], out: &mut [i32])
     ensures { out.new ≡ sets out.old most (means_at most most (past_of [] samples.now most) (drop most samples.now)) }
 {
     let mut sum = start;
-    let mut i = most;
-    while i < samples.len() {
+    for i in most..samples.len() {
         sum = sum + samples[i] - samples[i - most];
-        let mean = mean_of(sum as i64, most);
-        out[i] = mean;
-        i += 1;
-    }
-}
-
-// The mean over the last one is the sample itself.
-fn put_samples(samples: &[i32], out: &mut [i32])
-    requires { length samples.now ≤ length out.old }
-    ensures { out.new ≡ sets out.old 0 samples.now }
-{
-    let mut i: usize = 0;
-    while i < samples.len() {
-        let pv = samples[i];
-        out[i] = pv;
-        i += 1;
+        out[i] = mean_of(sum as i64, most);
     }
 }
 
@@ -114,17 +95,17 @@ impl Window {
         ensures { out.new ≡ front_filled (means_of m self samples.now) out.old }
     {
         if m == 1 {
-            put_samples(samples, out);
+            // The mean over the last one is the sample itself.
+            out[..samples.len()].copy_from_slice(samples);
             return;
         }
-        let places = self.places;
-        let most = lesser(m, Settings::WINDOW);
+        let most = m.min(Settings::WINDOW);
         let n = self.counted(m);
         if samples.len() <= most {
-            put_first(&places, most, n, samples, out);
+            put_first(&self.places, most, n, samples, out);
             return;
         }
-        let s = put_first(&places, most, n, &samples[..most], out);
+        let s = put_first(&self.places, most, n, &samples[..most], out);
         put_rest(s.sum as i32, most, samples, out);
     }
 
@@ -146,21 +127,14 @@ impl Window {
     pub fn after(self, samples: &[i32]) -> Window
         ensures { result ≡ after_all self samples.now }
     {
-        if samples.len() == 0 {
+        if samples.is_empty() {
             return self;
         }
-        let old = self.places;
-        let before = lesser(self.seen, Settings::WINDOW);
-        let seen = lesser(
-            Settings::WINDOW,
-            before + lesser(samples.len(), Settings::WINDOW),
-        );
-        let mut places = old;
-        let mut i: usize = 0;
-        while i < Settings::WINDOW {
-            let x = past(&old, samples, samples.len(), i);
-            places[i] = x;
-            i += 1;
+        let before = self.seen.min(Settings::WINDOW);
+        let seen = (before + samples.len().min(Settings::WINDOW)).min(Settings::WINDOW);
+        let mut places = self.places;
+        for (i, place) in places.iter_mut().enumerate() {
+            *place = past(&self.places, samples, samples.len(), i);
         }
         Window { places, seen }
     }

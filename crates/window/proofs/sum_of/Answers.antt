@@ -1,37 +1,47 @@
-use mathlib.Core.Path.{sym}
+use mathlib.Core.Path.{sym, ap, ◌∙◌}
+use mathlib.Core.List.{List}
 use native.Mathlib.Numerals.{add-one}
 use native.Mathlib.Omega.{arith}
-use lib.IntN.{pos}
-use lib.ListN.{get_or, take}
+use lib.IntN.{ℤ, pos}
+use lib.ListN.{get_or, take, length-take}
+use lib.Seq.{take_all}
 use mir.Syntax.{w32}
 use mir.Val.{SFits}
 use Rattle.whole.specs.Numbers.{Within}
 use Rattle.whole.proofs.Num.{nums, fits, gives}
 use Rattle.window.specs.Window.{sum_of}
 use Rattle.window.specs.Bounds.{sum_most}
-use Rattle.window.proofs.Sums.{sum_next, sum_within, mean_ok}
+use Rattle.window.proofs.Sums.{sum_next, sum_within, mean_ok, bits_take}
 use Rattle.window.proofs.sum_of.Goals as goal
-use Rattle.window.proofs.sum_of.Goals.{In-loop-i}
+use Rattle.window.proofs.sum_of.Goals.{In-loop-x}
+
+counted : In-loop-x → List ℤ
+counted c = take c.args.n c.args.places.now
 
 -- the place of a turn, and the sum before it
-here : (c : In-loop-i) → SFits w32 (get_or c.args.places.now c.loop-i.i (pos 0))
-here c = c.requires.1 c.loop-i.i
+here : (c : In-loop-x) → SFits w32 (get_or (counted c) c.loop-x.x-index (pos 0))
+unfolding counted
+here c = bits_take c.args.n c.args.places.now c.requires.1 c.loop-x.x-index
 
-so_far : (c : In-loop-i) → Within sum_most (sum_of (take c.loop-i.i c.args.places.now))
+so_far : (c : In-loop-x) → Within sum_most (sum_of (take c.loop-x.x-index (counted c)))
+unfolding counted
 so_far c =
-    sum_within (mean_ok c.loop-i.i c.args.places.now (omega (arith, c.requires.0, c.loop-i.invariant.0)) c.requires.1)
+    sum_within (mean_ok c.loop-x.x-index (counted c) (omega (arith, c.requires.0, c.loop-x-test.true, length-take c.args.n c.args.places.now)) (bits_take c.args.n c.args.places.now c.requires.1))
 
 pub overflow_add-sum : goal.overflow_add-sum
+unfolding counted
 overflow_add-sum c =
-    let l = c.loop-i in
-    let f = here (goal.at.overflow_add-sum c).In-loop-i in
-    let w = so_far (goal.at.overflow_add-sum c).In-loop-i in
-    rw l.invariant.1 (fits (search nums depth 12) tt)
+    let f = here (goal.at.overflow_add-sum c).In-loop-x in
+    let w = so_far (goal.at.overflow_add-sum c).In-loop-x in
+    rw c.loop-x.invariant (fits (search nums depth 12) tt)
 
-pub loop-i-preserved : goal.loop-i-preserved
-loop-i-preserved c =
-    let l = c.loop-i in
-    let f = here (goal.at.loop-i-preserved c).In-loop-i in
-    let w = so_far (goal.at.loop-i-preserved c).In-loop-i in
-    let s = c.args.places.now in
-    (omega arith, rw (l.invariant.1, add-one l.i) (gives (search nums depth 12) tt (sym (sum_next l.i s))))
+pub loop-x-preserved : goal.loop-x-preserved
+unfolding counted
+loop-x-preserved c =
+    let f = here (goal.at.loop-x-preserved c).In-loop-x in
+    let w = so_far (goal.at.loop-x-preserved c).In-loop-x in
+    rw (c.loop-x.invariant, add-one c.loop-x.x-index) (gives (search nums depth 12) tt (sym (sum_next c.loop-x.x-index (counted (goal.at.loop-x-preserved c).In-loop-x))))
+
+pub returns : goal.returns
+returns c =
+    c.loop-x.invariant ∙ ap sum_of (take_all c.loop-x.x-index (take c.args.n c.args.places.now) c.loop-x-test.false)

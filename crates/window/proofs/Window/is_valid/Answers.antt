@@ -19,4 +19,4 @@ returns c =
     let l = c.loop-i in
     let f = window_fit c.args.self c.well_formed.0 in
     let d = drop_of_length-le c.args.self.places {i = l.i} (omega (arith, f.places, c.loop-i-test.false)) in
-    sym (l.invariant.1 ∙ ap (λ (xs : List ℤ). l.ok && places_ok (c.args.self.seen - l.i) xs) d ∙ and_true l.ok)
+    sym (l.invariant ∙ ap (λ (xs : List ℤ). l.ok && places_ok (c.args.self.seen - l.i) xs) d ∙ and_true l.ok)

@@ -1,6 +1,6 @@
 use Prim.Native.Nat.{ℕ, ◌≤◌, min}
 use mathlib.Core.Path.{◌≡◌, refl, sym, ap, ap₂, ◌∙◌}
-use mathlib.Core.List.{List, []}
+use mathlib.Core.List.{List, [], ◌++◌}
 use native.Mathlib.Omega.{arith}
 use lib.IntN.{ℤ, pos, negsuc}
 use lib.ListN.{length, take, drop}
@@ -38,45 +38,44 @@ module _ (m : ℕ) {most n : ℕ} (w : Window) (pvs out : List ℤ) (l : length 
   front h = means_are ∙ sets_front out (means_of m w pvs) (omega (arith, means_length m w pvs, h))
 
 -- ---- after the first samples
-long : (c : After-put_first-s) → c.lesser-most.result ≤ length c.args.samples.now
+long : (c : After-put_first-s) → c.min-most.result ≤ length c.args.samples.now
 long c = omega (arith, c.if-samples-most.false)
 
-sum_is : (c : After-put_first-s) → c.put_first-s.result.sum ≡ sum_of (take c.lesser-most.result (past_of [] c.args.samples.now c.lesser-most.result))
+sum_is : (c : After-put_first-s) → c.put_first-s.result.sum ≡ sum_of (take c.min-most.result (past_of [] c.args.samples.now c.min-most.result))
 sum_is c =
     ap (λ (x : Summed). x.sum) c.put_first-s.ensures.value
-    ∙ first_sum c.lesser-most.result c.counted-n.result c.args.self.places c.args.samples.now (few c.args.m c.args.self.seen c.lesser-most.ensures c.counted-n.ensures).0 (long c)
+    ∙ first_sum c.min-most.result c.counted-n.result c.args.self.places c.args.samples.now (few c.args.m c.args.self.seen c.min-most.ensures c.counted-n.ensures).0 (long c)
 
 sum_small : (c : After-put_first-s) → Within sum_reach c.put_first-s.result.sum
 sum_small c =
     let pvs = c.args.samples.now in
     rw (sum_is c)
-    (sum_reach_lem c.lesser-most.result _ (few c.args.m c.args.self.seen c.lesser-most.ensures c.counted-n.ensures).1
-    (past_each _ _ [] pvs c.lesser-most.result (λ _. inside_yes (negsuc 999999) (pos reach) (pos 0) refl) (ranged_each pvs c.requires.0)))
+    (sum_reach_lem c.min-most.result _ (few c.args.m c.args.self.seen c.min-most.ensures c.counted-n.ensures).1
+    (past_each _ _ [] pvs c.min-most.result (λ _. inside_yes (negsuc 999999) (pos reach) (pos 0) refl) (ranged_each pvs c.requires.0)))
 
 pub returns-then-m-eq1 : goal.returns-then-m-eq1
 returns-then-m-eq1 c =
     let w = c.args.self in
     let pvs = c.args.samples.now in
     let out = c.args.out.now in
-    c.put_samples.ensures
-    ∙ sets_front out pvs c.requires.1
+    ap (λ (xs : List ℤ). xs ++ drop (length pvs) out) c.copy_from_slice.ensures.after
     ∙ ap (λ (xs : List ℤ). front_filled xs out) (sym (ap (λ (m : ℕ). means_of m w pvs) c.if-m-eq1.true ∙ means_one w pvs))
 
 pub put_first-requires : goal.put_first-requires
 put_first-requires c =
-    let k = few c.args.m c.args.self.seen c.lesser-most.ensures c.counted-n.ensures in
+    let k = few c.args.m c.args.self.seen c.min-most.ensures c.counted-n.ensures in
     (k.0, k.1, c.if-samples-most.true, c.requires.1, (window_fit c.args.self c.well_formed.0).bits, ranged_bits c.args.samples.now c.requires.0)
 
 pub returns-then-samples-most : goal.returns-then-samples-most
 returns-then-samples-most c =
     c.put_first.ensures.out_after
-    ∙ front c.args.m c.args.self c.args.samples.now c.args.out.now (window_fit c.args.self c.well_formed.0).places c.lesser-most.ensures c.counted-n.ensures c.requires.1
+    ∙ front c.args.m c.args.self c.args.samples.now c.args.out.now (window_fit c.args.self c.well_formed.0).places c.min-most.ensures c.counted-n.ensures c.requires.1
 
 pub put_first-s-requires : goal.put_first-s-requires
 put_first-s-requires c =
-    let most = c.lesser-most.result in
+    let most = c.min-most.result in
     let pvs = c.args.samples.now in
-    let f = few c.args.m c.args.self.seen c.lesser-most.ensures c.counted-n.ensures in
+    let f = few c.args.m c.args.self.seen c.min-most.ensures c.counted-n.ensures in
     let k = length-take-le most pvs (omega (arith, c.if-samples-most.false)) in
     (f.0, f.1, omega (arith, k), omega (arith, k, c.requires.1, c.if-samples-most.false), (window_fit c.args.self c.well_formed.0).bits, bits_take most pvs (ranged_bits pvs c.requires.0))
 
@@ -87,18 +86,18 @@ overflow_cast-s c =
 
 pub put_rest-requires : goal.put_rest-requires
 put_rest-requires c =
-    let most = c.lesser-most.result in
+    let most = c.min-most.result in
     let pvs = c.args.samples.now in
     let v = sum_small (goal.at.put_rest-requires c).After-put_first-s in
     let e = ap length c.put_first-s.ensures.out_after ∙ length-sets c.args.out.now 0 (means_at most c.counted-n.result c.args.self.places (take most pvs)) in
-    ((few c.args.m c.args.self.seen c.lesser-most.ensures c.counted-n.ensures).1, long (goal.at.put_rest-requires c).After-put_first-s, omega (arith, e, c.requires.1), c.requires.0, gives (search nums depth 12) tt (sum_is (goal.at.put_rest-requires c).After-put_first-s))
+    ((few c.args.m c.args.self.seen c.min-most.ensures c.counted-n.ensures).1, long (goal.at.put_rest-requires c).After-put_first-s, omega (arith, e, c.requires.1), c.requires.0, gives (search nums depth 12) tt (sum_is (goal.at.put_rest-requires c).After-put_first-s))
 
 pub returns : goal.returns
 returns c =
-    let most = c.lesser-most.result in
+    let most = c.min-most.result in
     let w = c.args.self in
     let pvs = c.args.samples.now in
     c.put_rest.ensures
     ∙ ap (λ (x : List ℤ). sets x most (means_at most most (past_of [] pvs most) (drop most pvs))) c.put_first-s.ensures.out_after
-    ∙ both_parts most c.counted-n.result w.places pvs (few c.args.m c.args.self.seen c.lesser-most.ensures c.counted-n.ensures).0 (long (goal.at.returns c).After-put_first-s) c.args.out.now
-    ∙ front c.args.m w pvs c.args.out.now (window_fit w c.well_formed.0).places c.lesser-most.ensures c.counted-n.ensures c.requires.1
+    ∙ both_parts most c.counted-n.result w.places pvs (few c.args.m c.args.self.seen c.min-most.ensures c.counted-n.ensures).0 (long (goal.at.returns c).After-put_first-s) c.args.out.now
+    ∙ front c.args.m w pvs c.args.out.now (window_fit w c.well_formed.0).places c.min-most.ensures c.counted-n.ensures c.requires.1

@@ -44,8 +44,8 @@ loop-i-init c =
       refl,
     )
 
-pub mean_of-mean-requires : goal.mean_of-mean-requires
-mean_of-mean-requires c =
+pub mean_of-requires : goal.mean_of-requires
+mean_of-requires c =
     let a = c.args in
     let l = c.loop-i in
     rw (summed_held a.most l.s.n l.i a.places.now a.samples.now _ c.next-s.ensures c.requires.1 c.requires.4 c.requires.5)
@@ -62,9 +62,9 @@ loop-i-preserved c =
     let rest = drop (l.i + 1) a.samples.now in
     -- the mean that is put
     let held = summed_held a.most l.s.n l.i a.places.now a.samples.now _ c.next-s.ensures c.requires.1 c.requires.4 c.requires.5 in
-    let mean : to_z w32 (of_z w32 c.mean_of-mean.result) ≡ nearest (sum_of (take then all)) then =
+    let mean : to_z w32 (of_z w32 c.mean_of.result) ≡ nearest (sum_of (take then all)) then =
     to_z-of_z {w = w32} (search rules)
-    ∙ c.mean_of-mean.ensures
+    ∙ c.mean_of.ensures
     ∙ ap₂ nearest (held ∙ ap (λ (x : Summed). x.sum) c.next-s.ensures) (ap (λ (x : Summed). x.n) c.next-s.ensures)
     in (
       omega (arith, more),
@@ -72,7 +72,7 @@ loop-i-preserved c =
       omega (arith, n),
       c.next-s.ensures ∙ ap (λ (k : ℕ). summed_of k all) (sym n),
       ap (λ (k : ℕ). counted_on a.most k rest) n ∙ counted_turn a.most l.s.n l.i a.samples.now more ∙ l.invariant.4,
-      ap (λ (k : ℕ). sets (set l.out l.i (to_z w32 (of_z w32 c.mean_of-mean.result))) (l.i + 1) (means_at a.most k all rest)) n
+      ap (λ (k : ℕ). sets (set l.out l.i (to_z w32 (of_z w32 c.mean_of.result))) (l.i + 1) (means_at a.most k all rest)) n
           ∙ means_turn a.most l.s.n l.i a.places.now a.samples.now l.out _ more mean
           ∙ l.invariant.5,
     )

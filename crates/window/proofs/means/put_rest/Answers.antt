@@ -93,10 +93,10 @@ overflow_sub-sum-in-loop-i c =
     let w = small (goal.at.overflow_sub-sum-in-loop-i c).In-loop-i in
     fits (search nums depth 20) tt
 
-pub mean_of-mean-requires : goal.mean_of-mean-requires
-mean_of-mean-requires c =
-    rw (handed (goal.at.mean_of-mean-requires c).In-loop-i)
-    (mean_ok (most (goal.at.mean_of-mean-requires c).In-loop-i) _ c.requires.0 (past_bits [] (samples (goal.at.mean_of-mean-requires c).In-loop-i) (c.loop-i.i + 1) (λ _. record { sfits = lit< tt }) (ranged_bits (samples (goal.at.mean_of-mean-requires c).In-loop-i) c.requires.3)))
+pub mean_of-requires : goal.mean_of-requires
+mean_of-requires c =
+    rw (handed (goal.at.mean_of-requires c).In-loop-i)
+    (mean_ok (most (goal.at.mean_of-requires c).In-loop-i) _ c.requires.0 (past_bits [] (samples (goal.at.mean_of-requires c).In-loop-i) (c.loop-i.i + 1) (λ _. record { sfits = lit< tt }) (ranged_bits (samples (goal.at.mean_of-requires c).In-loop-i) c.requires.3)))
 
 pub loop-i-preserved : goal.loop-i-preserved
 loop-i-preserved c =
@@ -105,9 +105,9 @@ loop-i-preserved c =
     let more = c.loop-i-test.true in
     let k : min m (m + 1) ≡ m = omega arith in
     let all = past_of [] (samples (goal.at.loop-i-preserved c).In-loop-i) (l.i + 1) in
-    let z : to_z w32 (of_z w32 c.mean_of-mean.result) ≡ nearest (sum_of (take (min m (m + 1)) all)) (min m (m + 1)) =
+    let z : to_z w32 (of_z w32 c.mean_of.result) ≡ nearest (sum_of (take (min m (m + 1)) all)) (min m (m + 1)) =
     to_z-of_z {w = w32} (search rules)
-    ∙ c.mean_of-mean.ensures
+    ∙ c.mean_of.ensures
     ∙ ap (λ (x : ℤ). nearest x m) (handed (goal.at.loop-i-preserved c).In-loop-i)
     ∙ ap (λ (j : ℕ). nearest (sum_of (take j all)) j) (sym k)
     in (
@@ -115,7 +115,7 @@ loop-i-preserved c =
       omega (arith, more),
       simp length-set l.invariant.2,
       next (goal.at.loop-i-preserved c).In-loop-i,
-      ap (λ (j : ℕ). sets (set l.out l.i (to_z w32 (of_z w32 c.mean_of-mean.result))) (l.i + 1) (means_at m j all (drop (l.i + 1) (samples (goal.at.loop-i-preserved c).In-loop-i)))) (sym k)
+      ap (λ (j : ℕ). sets (set l.out l.i (to_z w32 (of_z w32 c.mean_of.result))) (l.i + 1) (means_at m j all (drop (l.i + 1) (samples (goal.at.loop-i-preserved c).In-loop-i)))) (sym k)
           ∙ means_turn m m l.i [] (samples (goal.at.loop-i-preserved c).In-loop-i) l.out _ more z
           ∙ l.invariant.4,
     )
