@@ -91,12 +91,16 @@ impl Loop {
     pub fn make(settings: Settings) -> After<Loop>
         ensures { made_told result ≡ made_of settings }
     {
-        let outcome = settings.check();
-        let state = match outcome {
-            Ok(()) => Loop::fresh(settings),
-            Err(_) => Loop::blank(),
-        };
-        After { outcome, state }
+        match settings.check() {
+            Ok(()) => After {
+                outcome: Ok(()),
+                state: Loop::fresh(settings),
+            },
+            Err(refusal) => After {
+                outcome: Err(refusal),
+                state: Loop::blank(),
+            },
+        }
     }
 
     fn places_ok(self) -> bool

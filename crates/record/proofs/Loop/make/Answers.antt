@@ -6,10 +6,9 @@ use Rattle.record.proofs.Loop.make.Goals as goal
 
 pub returns-in-Ok : goal.returns-in-Ok
 unfolding made_of
-returns-in-Ok c =
-    rw (c.in-Ok.is, eq-eqb _ _ (sym c.in-Ok.ensures), c.fresh-state.ensures)
+returns-in-Ok c = rw (eq-eqb _ _ (sym c.in-Ok.ensures), c.fresh.ensures)
 
 pub returns-in-Err : goal.returns-in-Err
 unfolding made_of
 returns-in-Err c =
-    rw (c.in-Err.is, ne_eqb _ _ (λ q. refused_not_0 _ (c.in-Err.ensures ∙ q)), ← c.in-Err.ensures, c.blank-state.ensures)
+    rw (ne_eqb _ _ (λ q. refused_not_0 _ (c.in-Err.ensures ∙ q)), ← c.in-Err.ensures, c.blank.ensures)
