@@ -16,11 +16,10 @@ use Rattle.record.specs.Record.{guard_of, valid}
 use Rattle.record.specs.Refusals.{refusal_of}
 use Rattle.record.proofs.Rules.{Holds, valid_of_holds, holds_of}
 use Rattle.record.proofs.Kept.{hold_holds, put_holds, automatic_holds, target_holds, set_holds}
-use Rattle.pid.specs.declared.law.Obeyed.{Obeyed}
 use Rattle.pid.specs.Units.{rounded}
 use Rattle.settings.specs.Table.{in_reach}
 use Rattle.pid.specs.Sample.{limited, acted_of, moved_of}
-use Rattle.pid.specs.Law.{fixed_of, moving_of, read_at, sample_of, step_of, law_of}
+use Rattle.pid.specs.Law.{Obeyed, fixed_of, moving_of, read_at, sample_of, step_of, law_of}
 use Rattle.pid.specs.Bounds.{MovingOk}
 use Rattle.temperature.proofs.Ranged.{taken_reach}
 use Rattle.window.proofs.Rules.{taken_ok}

@@ -24,12 +24,11 @@ use Rattle.record.specs.Refusals.{refusal_of}
 use Rattle.record.proofs.Rules.{holds_of}
 use Rattle.record.proofs.Refused.{sample_code}
 use Rattle.pid.specs.declared.sample.Moving.{Moving}
-use Rattle.pid.specs.declared.play.Played.{Played}
 use Rattle.pid.specs.Sample.{acted_of, moved_of}
 use Rattle.pid.specs.Law.{with_moving, fixed_of, sample_of, step_of}
 use Rattle.command.specs.Sequence.{after, each}
 use Rattle.command.proofs.Sequences.{after_through}
-use Rattle.pid.specs.Play.{sampled, after_samples, outputs_of, play_refusal, refused_of, placed, played_of, wrote_of, reads_of, moved_after, moved_outputs}
+use Rattle.pid.specs.Play.{Played, sampled, after_samples, outputs_of, play_refusal, refused_of, placed, played_of, wrote_of, reads_of, moved_after, moved_outputs}
 use Rattle.pid.proofs.Turns.{each_length}
 
 -- ---- the law's samples are done on the window and on what moves

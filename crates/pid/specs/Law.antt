@@ -1,11 +1,13 @@
 -- 01, "The law, one command at a time": what each command does, and what is refused. "The plain law knows no numbers."
-use Rattle.std.specs.Prelude.{cond, eqb, ℤ, pos, neg_ℤ, ◌*ℤ◌}
+use Rattle.std.specs.Prelude.{ℕ, cond, eqb, ℤ, pos, neg_ℤ, ◌*ℤ◌}
 use Rattle.whole.specs.Numbers.{plus, eq_z}
 use Rattle.command.specs.declared.Command.{Command}
 use Rattle.command.specs.declared.Command.TheVariants.{Sample, Hold, Put, Automatic, Target, Set}
 use Rattle.window.specs.declared.Window.{Window}
 use Rattle.window.specs.Window.{taken, mean_at}
 use Rattle.settings.specs.Settings.{gains_at}
+use Rattle.refusal.specs.Refusal.{code_in}
+use Rattle.record.specs.declared.After.{After}
 use Rattle.record.specs.declared.Loop.{Loop}
 use Rattle.record.specs.Units.{F}
 use Rattle.record.specs.Record.{valid}
@@ -13,7 +15,6 @@ use Rattle.record.specs.Refusals.{refusal_of}
 use Rattle.record.specs.Commands.{hold_of, put_of, automatic_of, target_of, set_of}
 use Rattle.pid.specs.declared.sample.Fixed.{Fixed}
 use Rattle.pid.specs.declared.sample.Moving.{Moving}
-use Rattle.pid.specs.declared.law.Obeyed.{Obeyed}
 use Rattle.pid.specs.Sample.{moved_of}
 
 -- ---- the fields that a sample changes, written out once
@@ -76,6 +77,14 @@ step_of l (Put x) = put_of l x
 step_of l Automatic = automatic_of l
 step_of l (Target t r) = target_of l t r
 step_of l (Set k) = set_of l (plus k)
+
+-- what an obeyed command tells: its code, and the loop after it
+pub record Obeyed : Type 0 where
+  pub code : ℕ
+  pub state : Loop
+
+abbrev pub obeyed_told : After Loop → Obeyed
+obeyed_told o = record { code = code_in o.outcome; state = o.state }
 
 -- the plain law from any record: "10; then content"; "every refusal hands back the record that came in"
 unfoldable pub law_of : Loop → Command → Obeyed

@@ -2,13 +2,13 @@
 use Rattle.std.specs.Prelude.{ℕ, Bool, cond, ◌||◌, List, eqb, ltb, ℤ, length}
 use Rattle.whole.specs.Numbers.{plus}
 use Rattle.window.specs.Means.{means_of, front_filled}
-use Rattle.temperature.specs.Temperature.{first_bad, first_code}
+use Rattle.temperature.specs.Temperature.{first_bad, first_code, bad_told}
 use Rattle.command.specs.declared.Command.TheVariants.{Sample}
 use Rattle.record.specs.declared.Loop.{Loop}
 use Rattle.record.specs.Record.{guard_of, valid}
 use Rattle.pid.specs.declared.sample.Fixed.{Fixed}
 use Rattle.pid.specs.declared.sample.Moving.{Moving}
-use Rattle.pid.specs.declared.play.Played.{Played}
+use Rattle.pid.specs.declared.play.Played.{Played as Playing}
 use Rattle.pid.specs.Sample.{moved_of}
 use Rattle.pid.specs.Law.{step_of}
 use Rattle.command.specs.Sequence.{after, each}
@@ -32,6 +32,15 @@ unfoldable pub play_refusal : Loop → List ℤ → ℕ → ℕ
 play_refusal l samples room = cond (valid l) (cond (ltb room (length samples)) 12 (first_code (guard_of l) samples)) 10
 
 -- ---- what comes back
+
+-- what comes back: a code, the place of the sample that it speaks of, and the loop
+pub record Played : Type 0 where
+  pub code : ℕ
+  pub place : ℕ
+  pub state : Loop
+
+abbrev pub played_told : Playing → Played
+played_told p = record { code = (bad_told 0 p.outcome).code; place = (bad_told 0 p.outcome).place; state = p.state }
 
 -- "On a refusal neither record nor list changes"
 abbrev pub refused_of : Loop → ℕ → ℕ → Played

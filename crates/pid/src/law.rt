@@ -5,19 +5,14 @@ ghost use Rattle.settings.specs.Table.{reach, sets, in_reach};
 ghost use Rattle.settings.specs.Settings.{gains_at};
 ghost use Rattle.record.specs.Record.{valid};
 ghost use Rattle.record.specs.Refusals.{refusal_of};
-ghost use Rattle.pid.specs.Law.{sign_of, fixed_of, moving_of, with_moving, sample_of, step_of, law_of};
+ghost use Rattle.pid.specs.Law.{sign_of, fixed_of, moving_of, with_moving, sample_of, step_of, law_of, obeyed_told};
 
 use crate::sample::{Fixed, Moving, act, sense};
 use command::Command;
-use record::Loop;
+use record::{After, Loop};
+use refusal::Refusal;
 use settings::Gains;
 use window::Window;
-
-#[derive(Clone, Copy)]
-pub struct Obeyed {
-    pub code: u8,
-    pub state: Loop,
-}
 
 fn sign(action: i32) -> i64
     ensures { result ≡ sign_of action }
@@ -137,18 +132,23 @@ fn step(l: Loop, c: Command) -> Loop
 }
 
 // One command under the plain law: 10, then what is wrong with its content, else the step.
-pub fn obey(l: Loop, c: Command) -> Obeyed
-    ensures { result ≡ law_of l c }
+pub fn obey(l: Loop, c: Command) -> After<Loop>
+    ensures { obeyed_told result ≡ law_of l c }
 {
     if !l.is_valid() {
-        return Obeyed { code: 10, state: l };
-    }
-    let code = l.refusal(c);
-    if code == 0 {
-        return Obeyed {
-            code: 0,
-            state: step(l, c),
+        return After {
+            outcome: Err(Refusal::BrokenRecord),
+            state: l,
         };
     }
-    Obeyed { code, state: l }
+    match l.check(c) {
+        Ok(()) => After {
+            outcome: Ok(()),
+            state: step(l, c),
+        },
+        Err(refusal) => After {
+            outcome: Err(refusal),
+            state: l,
+        },
+    }
 }

@@ -1,20 +1,22 @@
 // A lent list of samples under the plain law, given in order; the front of a lent list takes the outputs.
 ghost use Rattle.std.specs.Prelude.{◌≡◌, true, ◌≤◌, length, take};
+ghost use Rattle.refusal.specs.Refusal.{code_for};
 ghost use Rattle.temperature.specs.Temperature.{first_code, ranged};
 ghost use Rattle.window.specs.Means.{front_filled};
 ghost use Rattle.record.specs.Record.{guard_of, valid};
 ghost use Rattle.pid.specs.Bounds.{FixedOk, MovingOk};
-ghost use Rattle.pid.specs.Play.{moved_after, moved_outputs, reads_of, after_samples, outputs_of, refused_of, played_of, wrote_of};
+ghost use Rattle.pid.specs.Play.{moved_after, moved_outputs, reads_of, after_samples, outputs_of, refused_of, played_of, played_told, wrote_of};
 
 use crate::law::{fixed, mean, moving, with_moving};
 use crate::sample::{Fixed, Moving, act, sense};
 use record::Loop;
-use temperature::raw_after;
+use refusal::Refusal;
+use temperature::{Bad, raw_after};
 
+// What became of a list of samples, and the loop after them. A refusal that is no sample's stands at place 0.
 #[derive(Clone, Copy)]
 pub struct Played {
-    pub code: u8,
-    pub place: usize,
+    pub outcome: Result<(), Bad>,
     pub state: Loop,
 }
 
@@ -37,14 +39,20 @@ fn run(f: Fixed, start: Moving, n: usize, out: &mut [i32]) -> Moving
     m
 }
 
-fn refused(l: Loop, code: u8, place: usize) -> Played
-    ensures { result ≡ refused_of l code place }
+fn refused(l: Loop, bad: Bad) -> Played
+    ensures { played_told result ≡ refused_of l (code_for bad.refusal) bad.place }
 {
     Played {
-        code,
-        place,
+        outcome: Err(bad),
         state: l,
     }
+}
+
+// Of no sample.
+fn stopped(l: Loop, refusal: Refusal) -> Played
+    ensures { played_told result ≡ refused_of l (code_for refusal) 0 }
+{
+    refused(l, Bad { refusal, place: 0 })
 }
 
 // The means stand in the list: every sample is good, and has its place.
@@ -60,24 +68,21 @@ fn give(l: Loop, samples: &[i32], out: &mut [i32]) -> Loop
 
 // 10, then 12, then 4 or 19 with the place of the earliest bad sample; else every sample is given once.
 pub fn play(l: Loop, samples: &[i32], out: &mut [i32]) -> Played
-    ensures value { result ≡ played_of l samples.now (length out.old) }
+    ensures value { played_told result ≡ played_of l samples.now (length out.old) }
     ensures out_after { out.new ≡ wrote_of l samples.now out.old }
 {
     if !l.is_valid() {
-        return refused(l, 10, 0);
+        return stopped(l, Refusal::BrokenRecord);
     }
     if out.len() < samples.len() {
-        return refused(l, 12, 0);
+        return stopped(l, Refusal::ShortOutputs);
     }
     let window = l.window;
-    let bad = window.means(mean(l), l.guard(), samples, out);
-    let code = bad.code;
-    if code != 0 {
-        return refused(l, code, bad.place);
+    if let Err(bad) = window.means(mean(l), l.guard(), samples, out) {
+        return refused(l, bad);
     }
     Played {
-        code: 0,
-        place: 0,
+        outcome: Ok(()),
         state: give(l, samples, out),
     }
 }

@@ -1,17 +1,21 @@
 -- DEMAND 1, of the plain law. "From any record that passes 01's state rules, power stays within the loop's limits and the
 -- integral within 01's bound." "A refused call changes no loop."
-use mathlib.Core.Path.{◌≡◌, refl}
+use Rattle.std.proofs.Common.{Result}
+use Rattle.std.specs.Bool.{⊤}
+use mathlib.Core.Path.{◌≡◌, refl, ap, ap₂}
 use mathlib.Core.Bool.{true, false}
 use lib.IntN.{ℤ, pos, ◌-ℤ◌, ◌*ℤ◌}
 use Rattle.whole.specs.Numbers.{Within, inside}
 use Rattle.whole.proofs.Truth.{cond_no}
 use Rattle.whole.proofs.Num.{nums, stays}
 use Rattle.command.specs.declared.Command.{Command}
+use Rattle.refusal.specs.declared.Refusal.{Refusal}
+use Rattle.refusal.proofs.promises.Codes.{code_in_once}
+use Rattle.record.specs.declared.After.{After}
 use Rattle.record.specs.declared.Loop.{Loop}
 use Rattle.record.specs.Units.{F}
 use Rattle.record.specs.Record.{in_b, valid}
 use Rattle.record.proofs.Rules.{holds_of}
-use Rattle.pid.specs.declared.law.Obeyed.{Obeyed}
 use Rattle.pid.specs.declared.sample.Fixed.{Fixed}
 use Rattle.pid.specs.declared.sample.Moving.{Moving}
 use Rattle.pid.specs.declared.sample.Sensed.{Sensed}
@@ -20,7 +24,7 @@ use Rattle.settings.specs.Table.{reach, in_reach}
 use Rattle.pid.specs.Sample.{sensed_of, share_of, v_of, limited_v}
 use Rattle.pid.specs.Bounds.{FixedOk, MovingOk}
 use Rattle.pid.specs.Run.{sensed_at}
-use Rattle.pid.specs.Law.{fixed_of, moving_of, read_at, law_of}
+use Rattle.pid.specs.Law.{Obeyed, obeyed_told, fixed_of, moving_of, read_at, law_of}
 use Rattle.pid.proofs.Sound.{fixed_ok, moving_ok, read_in}
 use Rattle.pid.proofs.Samples.{sensed_ok}
 use Rattle.pid.proofs.Arithmetic.{limited_within}
@@ -90,3 +94,10 @@ pub all_fit : (l : Loop) (pv : ℤ) → valid l ≡ true → in_reach pv ≡ tru
 all_fit l pv v e =
     let h = holds_of l v in
     fits_of (fixed_of l) (moving_of l) (read_at l pv) (fixed_ok l h) (moving_ok l h) (read_in l h pv e)
+
+-- What an obeyed command tells leaves nothing of it out.
+pub obeyed_once : (a b : After Loop) → obeyed_told a ≡ obeyed_told b → a ≡ b
+obeyed_once a b e =
+    ap₂ (λ (o : Result ⊤ Refusal) (l : Loop). record { outcome = o; state = l })
+    (code_in_once a.outcome b.outcome (ap (λ (o : Obeyed). o.code) e))
+    (ap (λ (o : Obeyed). o.state) e)

@@ -1,6 +1,9 @@
 -- A list of samples under the plain law: what a replay stands on. The contract of `play` says it by its definition
 -- (specs/Play.antt); here is what follows from it.
-use mathlib.Core.Path.{◌≡◌, sym}
+use Prim.Native.Nat.{ℕ}
+use Rattle.std.proofs.Common.{Result}
+use Rattle.std.specs.Bool.{⊤}
+use mathlib.Core.Path.{◌≡◌, sym, ap, ap₂}
 use mathlib.Core.Bool.{true}
 use mathlib.Core.List.{List, [], ◌∷◌, map}
 use borrow.Author.Tests.{eqb-true}
@@ -8,12 +11,15 @@ use lib.Dec.{eqb}
 use lib.IntN.{ℤ}
 use lib.ListN.{length}
 use Rattle.whole.proofs.Truth.{by_test}
-use Rattle.temperature.specs.Temperature.{first_code}
+use Rattle.temperature.specs.declared.Bad.{Bad as Earliest}
+use Rattle.temperature.specs.Temperature.{Bad, first_code}
+use Rattle.temperature.proofs.promises.Jump.{bad_once}
 use Rattle.command.specs.declared.Command.TheVariants.{Sample}
 use Rattle.command.specs.Sequence.{after}
 use Rattle.record.specs.declared.Loop.{Loop}
 use Rattle.record.specs.Record.{guard_of, valid}
-use Rattle.pid.specs.Play.{sampled, after_samples, play_refusal, played_of, wrote_of}
+use Rattle.pid.specs.declared.play.Played.{Played as Playing}
+use Rattle.pid.specs.Play.{Played, played_told, sampled, after_samples, play_refusal, played_of, wrote_of}
 use Rattle.pid.specs.Run.{obeyed}
 use Rattle.pid.proofs.Kept.{step_valid}
 use Rattle.pid.proofs.Plays.{after_commands, good_first, playable}
@@ -45,3 +51,13 @@ refused_back l samples out f =
     by_test (eqb (play_refusal l samples (length out)) 0)
     (λ e. absurd (f (rw e)))
     (λ e. (rw e, rw e))
+
+-- What a played list tells leaves nothing of it out.
+pub played_once : (a b : Playing) → played_told a ≡ played_told b → a ≡ b
+played_once a b e =
+    ap₂ (λ (o : Result ⊤ Earliest) (l : Loop). record { outcome = o; state = l })
+    (bad_once 0 a.outcome b.outcome (ap₂ bad (ap (λ (p : Played). p.code) e) (ap (λ (p : Played). p.place) e)))
+    (ap (λ (p : Played). p.state) e)
+  where
+    bad : ℕ → ℕ → Bad
+    bad code place = record { code = code; place = place }

@@ -1,6 +1,7 @@
-use mathlib.Core.Path.{◌∙◌}
+use mathlib.Core.Path.{sym, ◌∙◌}
 use borrow.Author.Tests.{eq-eqb, ne_eqb}
 use Rattle.whole.proofs.Truth.{so}
+use Rattle.refusal.proofs.promises.Codes.{refused_not_0}
 use Rattle.pid.specs.Law.{law_of}
 use Rattle.pid.proofs.law.obey.Goals as goal
 
@@ -9,15 +10,12 @@ unfolding law_of
 returns-then-not-is_valid c =
     rw (so c.is_valid.ensures c.if-not-is_valid.true)
 
-pub returns-then-code-eq0 : goal.returns-then-code-eq0
+pub returns-in-Ok : goal.returns-in-Ok
 unfolding law_of
-returns-then-code-eq0 c =
-    let v = c.is_valid in
-    rw (so v.ensures c.if-not-is_valid.false, eq-eqb _ _ (so c.refusal-code.ensures c.if-code-eq0.true), c.step.ensures)
+returns-in-Ok c =
+    rw (so c.is_valid.ensures c.if-not-is_valid.false, eq-eqb _ _ (sym c.in-Ok.ensures), c.step.ensures)
 
-pub returns : goal.returns
+pub returns-in-Err : goal.returns-in-Err
 unfolding law_of
-returns c =
-    let v = c.is_valid in
-    let r = c.refusal-code in
-    rw (so v.ensures c.if-not-is_valid.false, ne_eqb _ _ (λ q. c.if-code-eq0.false (r.ensures ∙ q)), ← r.ensures)
+returns-in-Err c =
+    rw (so c.is_valid.ensures c.if-not-is_valid.false, ne_eqb _ _ (λ q. refused_not_0 _ (c.in-Err.ensures ∙ q)), ← c.in-Err.ensures)
