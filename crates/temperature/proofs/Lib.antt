@@ -1,4 +1,5 @@
 mod Fit
+pub mod InRange
 pub mod Apart
 pub mod Earliest
 pub mod Ranged

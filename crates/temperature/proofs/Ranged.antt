@@ -1,11 +1,12 @@
 -- Samples within ±1,000,000, and the last of some samples.
 use Prim.Native.Nat.{ℕ, suc, ◌+◌, ◌-◌, ◌<◌}
-use mathlib.Core.Path.{◌≡◌, refl, sym, ap, ◌∙◌}
+use mathlib.Core.Path.{◌≡◌, refl, ap, ◌∙◌}
 use mathlib.Core.Bool.{true, false}
 use mathlib.Core.List.{List, [], ◌∷◌}
 use native.Mathlib.Omega.{arith}
 use lib.IntN.{ℤ, pos}
 use lib.ListN.{length, drop, get_or}
+use Rattle.std.proofs.Common.{unwrap_or, slice_get}
 use Rattle.whole.proofs.Truth.{both, and, zero_if, zero_else}
 use Rattle.whole.proofs.Lists.{next}
 use Rattle.settings.specs.Table.{in_reach}
@@ -40,15 +41,10 @@ all_ranged g (pv ∷ pvs) e =
 
 -- ---- the last of some samples
 
-pub raw_none : (raw : ℤ) (pvs : List ℤ) → length pvs ≡ 0 → raw_after raw pvs ≡ raw
+pub last_is : (raw : ℤ) (pvs : List ℤ) → unwrap_or (slice_get pvs (length pvs - 1)) raw ≡ raw_after raw pvs
 unfolding raw_after
-raw_none raw [] e = refl
-raw_none raw (pv ∷ pvs) e = absurd (omega arith)
-
-pub raw_last : (raw : ℤ) (pvs : List ℤ) → 0 < length pvs → raw_after raw pvs ≡ get_or pvs (length pvs - 1) (pos 0)
-unfolding raw_after
-raw_last raw [] h = absurd (omega arith)
-raw_last raw (pv ∷ []) h = refl
-raw_last raw (pv ∷ x ∷ pvs) h =
+last_is raw [] = refl
+last_is raw (pv ∷ []) = refl
+last_is raw (pv ∷ x ∷ pvs) =
     let p : suc (suc (length pvs)) - 1 ≡ suc (suc (length pvs) - 1) = omega arith in
-    raw_last pv (x ∷ pvs) (omega arith) ∙ ap (λ (i : ℕ). get_or (pv ∷ x ∷ pvs) i (pos 0)) (sym p)
+    ap (λ (i : ℕ). unwrap_or (slice_get (pv ∷ x ∷ pvs) i) raw) p ∙ last_is raw (x ∷ pvs)

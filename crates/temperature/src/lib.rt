@@ -25,13 +25,11 @@ pub struct Bad {
     pub place: usize,
 }
 
-// Whether two temperatures lie further than jump from each other; in 64 bits, where no difference wraps.
+// Whether two temperatures lie further than jump from each other; in 64 bits, since a jump may be below zero.
 fn further(jump: i32, raw: i32, pv: i32) -> bool
     ensures { result ≡ further jump raw pv }
 {
-    let apart = pv as i64 - raw as i64;
-    let most = jump as i64;
-    (most < apart) | (most < -apart)
+    i64::from(jump) < i64::from(pv.abs_diff(raw))
 }
 
 impl Guard {
@@ -39,9 +37,7 @@ impl Guard {
     pub fn is_valid(self) -> bool
         ensures { result ≡ raw_ok self.primed self.raw }
     {
-        (-Settings::REACH <= self.raw)
-            & (self.raw <= Settings::REACH)
-            & (self.primed | (self.raw == 0))
+        (-Settings::REACH..=Settings::REACH).contains(&self.raw) & (self.primed | (self.raw == 0))
     }
 
     fn jumps(self, pv: i32) -> bool
@@ -54,7 +50,7 @@ impl Guard {
     pub fn check(self, pv: i32) -> Result<(), Refusal>
         ensures { code_in result ≡ code_of self pv }
     {
-        if !whole::lies_in(-Settings::REACH, Settings::REACH, pv) {
+        if !(-Settings::REACH..=Settings::REACH).contains(&pv) {
             return Err(Refusal::Temperature);
         }
         if self.jumps(pv) {
@@ -91,9 +87,5 @@ impl Guard {
 pub fn raw_after(raw: i32, samples: &[i32]) -> i32
     ensures { result ≡ raw_after raw samples.now }
 {
-    let n = samples.len();
-    if n == 0 {
-        return raw;
-    }
-    samples[n - 1]
+    samples.last().copied().unwrap_or(raw)
 }
