@@ -2,9 +2,13 @@
 use Prim.Native.Nat.{ℕ, zero, suc, ◌+◌, ◌*◌, ◌-◌, ◌<◌, ◌≤◌}
 use mathlib.Core.Path.{◌≡◌}
 use native.Mathlib.Omega.{arith}
-use native.Mathlib.Nat.{div-zero, div-add-mod', mod-lt, mul-le-mul_right, mul-le-mul_left, mul-sub, mul_comm}
+use native.Mathlib.Nat.{div-zero, div-add-mod', mod-lt, mul-le-mul_right, mul-le-mul_left}
 use borrow.Author.Tests.{ltb-true, ltb-false}
 use lib.Dec.{ltb}
+use lib.IntN.{ℤ, pos, negsuc, nat_abs}
+use Rattle.std.specs.Int.{div_ceil}
+use Rattle.std.proofs.lemmas.Grind.{div_ceil_times}
+use Rattle.whole.specs.Numbers.{size}
 use Rattle.whole.proofs.Truth.{by_test}
 use Rattle.record.specs.Remaining.{ceiling}
 
@@ -28,15 +32,18 @@ ceiling_most d (suc r) =
     (λ t. absurd (omega (arith, short d (suc r) d (omega arith) (ltb-true d (ceiling d (suc r)) t), mul-le-mul_left {m = 1} {n = suc r} d (omega arith))))
     (λ t. ltb-false d (ceiling d (suc r)) t)
 
--- n samples
-pub ceiling_less : (d r n : ℕ) → 1 ≤ r → ceiling (d - n * r) r ≡ ceiling d r - n
-ceiling_less d r n h =
-    let q = ceiling d r in
-    let m = ceiling (d - n * r) r in
-    let all = enough d r q h (omega arith) in
-    let left = enough (d - n * r) r m h (omega arith) in
-    by_test (ltb (q - n) m)
-    (λ t. let s = short (d - n * r) r (q - n) h (ltb-true (q - n) m t) in absurd (omega (arith, s, all, mul-sub r q n, mul_comm r (q - n), mul_comm r q, mul_comm r n)))
-    (λ t. by_test (ltb m (q - n))
-    (λ u. let k = ltb-true m (q - n) u in let s = short d r (m + n) h (omega (arith, k)) in absurd (omega (arith, s, left)))
-    (λ u. omega (arith, ltb-false (q - n) m t, ltb-false m (q - n) u)))
+-- it is what std's method of that name gives
+pub ceiling_is : (d r : ℕ) → 0 < r → div_ceil d r ≡ ceiling d r
+ceiling_is d r h =
+    let n = div_ceil d r in
+    let m = ceiling d r in
+    let t = div_ceil_times d r h in
+    by_test (ltb n m)
+    (λ l. absurd (omega (arith, t.0, short d r n (omega arith) (ltb-true n m l))))
+    (λ l. by_test (ltb m n)
+    (λ k. absurd (omega (arith, t.1, enough d r m (omega arith) (omega arith), mul-le-mul_right {m = suc m} {n = n} r (omega (arith, ltb-true m n k)))))
+    (λ k. omega (arith, ltb-false n m l, ltb-false m n k)))
+
+pub size_is : (z : ℤ) → nat_abs z ≡ size z
+size_is (pos n) = omega arith
+size_is (negsuc n) = omega arith

@@ -106,20 +106,18 @@ impl Loop {
     fn places_ok(self) -> bool
         ensures { result ≡ places_ok self }
     {
-        (-Loop::REACH <= self.w)
-            & (self.w <= Loop::REACH)
-            & ((-Loop::REACH <= self.target) & (self.target <= Loop::REACH))
-            & ((1 <= self.rate) & (self.rate <= Loop::FASTEST))
+        (-Loop::REACH..=Loop::REACH).contains(&self.w)
+            & (-Loop::REACH..=Loop::REACH).contains(&self.target)
+            & (1..=Loop::FASTEST).contains(&self.rate)
             & (self.set < Settings::SETS)
-            & ((self.settings.lo <= self.u) & (self.u <= self.settings.hi))
+            & (self.settings.lo..=self.settings.hi).contains(&self.u)
     }
 
     fn fine_ok(self) -> bool
         ensures { result ≡ fine_ok self }
     {
-        (-Loop::B <= self.integral)
-            & (self.integral <= Loop::B)
-            & ((-Loop::FINE_REACH <= self.y) & (self.y <= Loop::FINE_REACH))
+        (-Loop::B..=Loop::B).contains(&self.integral)
+            & (-Loop::FINE_REACH..=Loop::FINE_REACH).contains(&self.y)
             & (self.primed | (self.y == 0))
     }
 

@@ -11,10 +11,10 @@ use settings::Settings;
 fn check_target(t: i32, r: i32) -> Result<(), Refusal>
     ensures { code_in result ≡ target_refusal t r }
 {
-    if !whole::lies_in(-Loop::REACH, Loop::REACH, t) {
+    if !(-Loop::REACH..=Loop::REACH).contains(&t) {
         return Err(Refusal::Target);
     }
-    if !whole::lies_in(1, Loop::FASTEST, r) {
+    if !(1..=Loop::FASTEST).contains(&r) {
         return Err(Refusal::Rate);
     }
     Ok(())
@@ -26,7 +26,7 @@ const LAST_SET: i32 = Settings::SETS as i32 - 1;
 fn check_set(k: i32) -> Result<(), Refusal>
     ensures { code_in result ≡ set_refusal k }
 {
-    if !whole::lies_in(0, LAST_SET, k) {
+    if !(0..=LAST_SET).contains(&k) {
         return Err(Refusal::NoSet);
     }
     Ok(())
@@ -45,7 +45,7 @@ impl Loop {
         if self.automatic {
             return Err(Refusal::PutInAutomatic);
         }
-        if !whole::lies_in(self.settings.lo, self.settings.hi, x) {
+        if !(self.settings.lo..=self.settings.hi).contains(&x) {
             return Err(Refusal::PutOutside);
         }
         Ok(())

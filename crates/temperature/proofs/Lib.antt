@@ -1,4 +1,3 @@
-mod Fit
 pub mod InRange
 pub mod Apart
 pub mod Earliest
