@@ -24,9 +24,8 @@ use Rattle.settings.proofs.Ranges.{rows_front, filled_in}
 use Rattle.settings.proofs.Forms.{picked_long, take_picked, drop_picked, picked_append, completed_long, completed_append, completed_in, picked_completed, picked_in, filled_picked}
 use Rattle.word.specs.Decimal.{shown}
 use Rattle.word.specs.End.{begins}
-use Rattle.text.specs.declared.reader.Reading.{Reading}
 use Rattle.writer.specs.Lines.{lines_of, Headed, both_lines, mean_alone, neither_line, Gained, full, short, text_for, text_of, longest_for, longest_text}
-use Rattle.text.specs.Reader.{ended, line_code, after_lines, refused, read_end, read_from, heads_in, sets_in, read_text}
+use Rattle.text.specs.Reader.{Reading, ended, line_code, after_lines, refused, read_end, read_from, heads_in, sets_in, read_text}
 use Rattle.writer.proofs.Rows.{lined, form_long, form_lined, form_next, form_parts, form_at, row_at, text_whole, headed, gained}
 use Rattle.writer.proofs.Writes.{sound, sound_long}
 use Rattle.text.proofs.Texts.{kp0_after, heads_in_lem, kp0_there, kp0_first, goes_on, ends_short, sets_in_lem, read_with, end_yes, end_taken, lines_done, line_refused}

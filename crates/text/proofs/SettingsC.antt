@@ -13,9 +13,8 @@ use Rattle.settings.specs.Table.{gain, share, window, farthest, firsts, sets, sh
 use Rattle.settings.specs.Settings.{in_table, settings_refusal}
 use Rattle.settings.specs.SettingsC.{gain_set, settings_c}
 use Rattle.word.specs.Decimal.{shown}
-use Rattle.text.specs.declared.reader.Reading.{Reading}
 use Rattle.writer.specs.Lines.{Headed, both_lines, mean_alone, neither_line, Gained, full, short, text_for, longest_for}
-use Rattle.text.specs.Reader.{read_text}
+use Rattle.text.specs.Reader.{Reading, read_text}
 use Rattle.text.proofs.Forms.{said_of, form_read}
 
 abbrev pub text_c : List ℕ

@@ -13,22 +13,20 @@ use Rattle.whole.proofs.Truth.{never, both, chosen, by_test, zero_if, zero_then}
 use Rattle.whole.specs.Words.{bytes}
 use Rattle.settings.specs.declared.table.Row.{Row}
 use Rattle.settings.specs.declared.Settings.{Settings}
-use Rattle.settings.specs.Table.{firsts, heads, sets, short_sets, lines_for, lines, rows_of, picked, in_row}
+use Rattle.settings.specs.Table.{firsts, heads, sets, short_sets, lines_for, lines, rows_of, picked, in_row, key_of}
 use Rattle.settings.specs.Settings.{settings_of, completed, filled, ordered}
-use Rattle.word.specs.declared.decimal.Decimal.TheVariants.{Is, Wrong}
+use Rattle.std.specs.Prelude.{Some, None}
 use Rattle.word.specs.Decimal.{number_of, decimal_of}
 use Rattle.word.specs.End.{end_at, feed, begins}
 use Rattle.word.proofs.Words.{part_after}
-use Rattle.text.specs.declared.reader.Line.{Line}
-use Rattle.text.specs.declared.reader.Reading.{Reading}
-use Rattle.writer.specs.Lines.{key_of, Headed, both_lines, mean_alone, neither_line, Gained, full, short}
-use Rattle.text.specs.Reader.{line_in, ended, word_in, formed, value_in, line_value, line_code, line_read, after_line, after_lines, refused, read_end, read_from, heads_in, sets_in, read_text}
+use Rattle.writer.specs.Lines.{Headed, both_lines, mean_alone, neither_line, Gained, full, short}
+use Rattle.text.specs.Reader.{Line, Reading, line_in, ended, word_in, formed, value_in, line_value, line_code, line_read, after_line, after_lines, refused, read_end, read_from, heads_in, sets_in, read_text}
 use Rattle.writer.proofs.Rows.{form_long, form_done, headed, gained}
 
 -- ---- one line
 
 module _ (r : Row) (l : List ℕ) where
-  pub not_begun : begins (key_of r) l ≡ false → value_in r l ≡ Wrong
+  pub not_begun : begins (key_of r) l ≡ false → value_in r l ≡ None
   unfolding formed
   not_begun e = rw e
 
@@ -36,11 +34,11 @@ module _ (r : Row) (l : List ℕ) where
   unfolding formed
   begun e = rw e
 
-not_picked : (b : Bool) (x : ℤ) → cond b (Is x) Wrong ≡ Wrong → b ≡ false
+not_picked : (b : Bool) (x : ℤ) → cond b (Some x) None ≡ None → b ≡ false
 not_picked true x e = cc
 not_picked false x e = refl
 
-is_picked : (b : Bool) (x z : ℤ) → cond b (Is x) Wrong ≡ Is z → (b ≡ true) × (x ≡ z)
+is_picked : (b : Bool) (x z : ℤ) → cond b (Some x) None ≡ Some z → (b ≡ true) × (x ≡ z)
 is_picked true x z e = (refl, cc)
 is_picked false x z e = (cc, cc)
 
@@ -52,7 +50,7 @@ module _ (r : Row) (s : List ℕ) where
   read_as : (k : ℕ) → line_code r s ≡ k → line_read r s ≡ record { code = k; value = cond (eqb k 0) (line_value r s) (pos 0) }
   read_as k e = ap (λ (n : ℕ). record { code = n; value = cond (eqb n 0) (line_value r s) (pos 0) }) e
 
-  pub line_wrong : value_in r (line_in s) ≡ Wrong → line_read r s ≡ record { code = 14; value = pos 0 }
+  pub line_wrong : value_in r (line_in s) ≡ None → line_read r s ≡ record { code = 14; value = pos 0 }
   unfolding line_code
   line_wrong v = read_as 14 (rw (not_picked (formed r (line_in s)) (number_of (word_in r (line_in s))) v, no_second (ended s)))
 
@@ -60,13 +58,13 @@ module _ (r : Row) (s : List ℕ) where
   unfolding line_code
   line_stops e = read_as 14 (rw e)
 
-  pub line_out : (z : ℤ) → value_in r (line_in s) ≡ Is z → ended s ≡ true → in_row r z ≡ false → line_read r s ≡ record { code = 15; value = pos 0 }
+  pub line_out : (z : ℤ) → value_in r (line_in s) ≡ Some z → ended s ≡ true → in_row r z ≡ false → line_read r s ≡ record { code = 15; value = pos 0 }
   unfolding line_code line_value
   line_out z v e i =
       let p = is_picked (formed r (line_in s)) (number_of (word_in r (line_in s))) z v in
       read_as 15 (rw (e, p.0, p.1, i))
 
-  pub line_good : (z : ℤ) → value_in r (line_in s) ≡ Is z → ended s ≡ true → in_row r z ≡ true → line_read r s ≡ record { code = 0; value = z }
+  pub line_good : (z : ℤ) → value_in r (line_in s) ≡ Some z → ended s ≡ true → in_row r z ≡ true → line_read r s ≡ record { code = 0; value = z }
   unfolding line_code line_value
   line_good z v e i =
       let p = is_picked (formed r (line_in s)) (number_of (word_in r (line_in s))) z v in

@@ -14,7 +14,7 @@ use Rattle.whole.proofs.Truth.{never, both, and}
 use Rattle.whole.specs.Numbers.{inside}
 use Rattle.whole.proofs.Parts.{zs, inside_yes}
 use Rattle.settings.specs.declared.table.Row.{Row}
-use Rattle.settings.specs.Table.{in_row}
+use Rattle.settings.specs.Table.{in_row, key_of}
 use Rattle.settings.specs.Settings.{all_in, settings_of, completed, filled}
 use Rattle.settings.proofs.Lists.{all}
 use Rattle.settings.proofs.Ranges.{all_append}
@@ -22,9 +22,8 @@ use Rattle.word.specs.Decimal.{is_decimal, number_of, decimal}
 use Rattle.word.specs.End.{end_at, feed, begins}
 use Rattle.word.proofs.Words.{without_both, end_without, before_first, after_first, at_byte, begins_self, begins_split}
 use Rattle.word.proofs.Decimals.{decimal_read, read_decimal}
-use Rattle.text.specs.declared.reader.Reading.{Reading}
-use Rattle.writer.specs.Lines.{key_of, line_of, lines_of}
-use Rattle.text.specs.Reader.{line_in, ended, after_line, word_in, formed, line_code, line_value, after_lines, read_end, read_from}
+use Rattle.writer.specs.Lines.{line_of, lines_of}
+use Rattle.text.specs.Reader.{Reading, line_in, ended, after_line, word_in, formed, line_code, line_value, after_lines, read_end, read_from}
 use Rattle.writer.proofs.Rows.{plain, plain_shown, lined, is_lined}
 use Rattle.text.proofs.Texts.{line_yes, feed_there, end_yes, line_taken, first_taken}
 
@@ -77,7 +76,7 @@ line_read_back : (r : Row) (z : ℤ) (s : List ℕ) → lined r ≡ true → in_
 unfolding line_code line_value
 line_read_back r z s l i =
     let f = is_lined r l in
-    let h = small z r.2 r.3 f.least f.most i in
+    let h = small z r.least r.most f.least f.most i in
     let w = key_of r ++ decimal z in
     let e : plain w ≡ true = without_both feed (key_of r) (decimal z) f.key (plain_decimal z) in
     let q : line_of r z ++ s ≡ w ++ (feed ∷ s) = simp append_assoc in

@@ -1,17 +1,16 @@
 -- 01, "Settings text", with 02's requests 5, 7 and 8: what a text is read as.
-use Rattle.std.specs.Prelude.{ℕ, zero, suc, ◌+◌, Bool, cond, ◌&&◌, List, [], ◌∷◌, ◌++◌, ltb, eqb, ℤ, pos, length, take, drop}
+use Rattle.std.specs.Prelude.{ℕ, zero, suc, ◌+◌, Bool, cond, ◌&&◌, List, [], ◌∷◌, ◌++◌, ltb, eqb, ℤ, pos, length, take, drop, Option, Some, None, Result, Ok, Err}
 use Rattle.whole.specs.Words.{bytes}
 use Rattle.settings.specs.declared.table.Row.{Row}
 use Rattle.settings.specs.declared.Settings.{Settings}
-use Rattle.settings.specs.Table.{firsts, heads, sets, short_sets, lines_for, rows_of, picked, in_row}
+use Rattle.settings.specs.Table.{firsts, heads, sets, short_sets, lines_for, rows_of, picked, key_of, in_row}
 use Rattle.settings.specs.Settings.{settings_of, completed, filled, blank_settings, ordered}
-use Rattle.word.specs.declared.decimal.Decimal.{Decimal}
-use Rattle.word.specs.declared.decimal.Decimal.TheVariants.{Is, Wrong}
+use Rattle.refusal.specs.declared.Refusal.{Refusal}
+use Rattle.refusal.specs.Refusal.{code_for, code_in}
 use Rattle.word.specs.Decimal.{is_decimal, number_of}
 use Rattle.word.specs.End.{end_at, feed, begins}
-use Rattle.text.specs.declared.reader.Line.{Line}
-use Rattle.text.specs.declared.reader.Reading.{Reading}
-use Rattle.writer.specs.Lines.{key_of}
+use Rattle.text.specs.declared.reader.Fault.{Fault}
+use Rattle.text.specs.declared.reader.Reading.{Reading as Outcome}
 
 -- ---- the first line of what is left of a text
 
@@ -38,8 +37,8 @@ unfoldable pub formed : Row → List ℕ → Bool
 formed r l = begins (key_of r) l && is_decimal (word_in r l)
 
 -- the value of such a line
-abbrev pub value_in : Row → List ℕ → Decimal
-value_in r l = cond (formed r l) (Is (number_of (word_in r l))) Wrong
+abbrev pub value_in : Row → List ℕ → Option ℤ
+value_in r l = cond (formed r l) (Some (number_of (word_in r l))) None
 
 -- the value of the first line
 unfoldable pub line_value : Row → List ℕ → ℤ
@@ -49,15 +48,37 @@ line_value r s = number_of (word_in r (line_in s))
 unfoldable pub line_code : Row → List ℕ → ℕ
 line_code r s = cond (ended s && formed r (line_in s)) (cond (in_row r (line_value r s)) 0 15) 14
 
+-- what a line is read as: a code, and a value beside it
+pub record Line : Type 0 where
+  pub code : ℕ
+  pub value : ℤ
+
+abbrev pub line_told : Result ℤ Refusal → Line
+line_told (Ok z) = record { code = 0; value = z }
+line_told (Err r) = record { code = code_for r; value = pos 0 }
+
 -- the code, and the value where that is 0
 abbrev pub line_read : Row → List ℕ → Line
 line_read r s = record { code = line_code r s; value = cond (eqb (line_code r s) 0) (line_value r s) (pos 0) }
 
 -- ---- the text
 
+-- what a text is read as: a code, the line of codes 14 and 15, and settings
+pub record Reading : Type 0 where
+  pub code : ℕ
+  pub line : ℕ
+  pub settings : Settings
+
+abbrev pub reading_told : Outcome → Reading
+reading_told r = record { code = code_in r.outcome; line = r.line; settings = r.settings }
+
 -- "what stands beside the code is the blank"
 abbrev pub refused : ℕ → ℕ → Reading
 refused code n = record { code = code; line = n; settings = blank_settings }
+
+abbrev pub read_told : Result Settings Fault → Reading
+read_told (Ok x) = record { code = 0; line = 0; settings = x }
+read_told (Err f) = refused (code_for f.refusal) f.line
 
 -- "Then 17, then 16. Codes other than 14 and 15 report line 0": left bytes stand after the last line
 unfoldable pub read_end : Settings → ℕ → Reading

@@ -21,9 +21,8 @@ use Rattle.settings.specs.SettingsC.{settings_c}
 use Rattle.settings.proofs.Values.{filled_all}
 use Rattle.word.specs.Decimal.{shown}
 use Rattle.word.specs.End.{begins}
-use Rattle.text.specs.declared.reader.Reading.{Reading}
 use Rattle.writer.specs.Lines.{lines_of, Headed, mean_alone, neither_line, Gained, full, short, text_for, text_of, longest_for, longest_text}
-use Rattle.text.specs.Reader.{line_code, after_lines, refused, read_end, heads_in, sets_in, read_text}
+use Rattle.text.specs.Reader.{Reading, line_code, after_lines, refused, read_end, heads_in, sets_in, read_text}
 use Rattle.writer.specs.Writer.{written_of, buffer_after}
 use Rattle.text.proofs.Texts.{has_neither, has_both, heads_in_lem, kp0_first, goes_on, sets_in_lem, text_answer}
 use Rattle.writer.proofs.Writes.{fits_in, wrote, wrote_nothing}
