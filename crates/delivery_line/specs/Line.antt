@@ -1,18 +1,12 @@
 -- A delivery is a line `number=N command=WORD value=V second=S`, "in that order, one space between", "unused values 0".
-use Rattle.std.specs.Prelude.{ℕ, ◌+◌, Bool, cond, ◌&&◌, List, [], eqb, ℤ, pos, length, take, drop}
+use Rattle.std.specs.Prelude.{ℕ, ◌+◌, Bool, cond, ◌&&◌, List, [], eqb, ℤ, pos, length, take, drop, Option, Some, None}
 use Rattle.whole.specs.Numbers.{eq_z}
 use Rattle.whole.specs.Words.{bytes}
 use Rattle.command.specs.declared.Command.TheVariants.{Sample, Hold, Put, Automatic, Target, Set}
-use Rattle.word.specs.declared.decimal.Decimal.{Decimal}
-use Rattle.word.specs.declared.decimal.Decimal.TheVariants as decimal
-use Rattle.word.specs.declared.number.Number.{Number}
-use Rattle.word.specs.declared.number.Number.TheVariants as number
 use Rattle.word.specs.Number.{number_in, signed_in}
 use Rattle.word.specs.End.{end_at, begins}
-use Rattle.delivery_line.specs.declared.Asked.{Asked}
-use Rattle.delivery_line.specs.declared.Asked.TheVariants as asked
+use Rattle.command.specs.declared.Command.{Command}
 use Rattle.delivery_line.specs.declared.Delivery.{Delivery}
-use Rattle.delivery_line.specs.declared.Delivery.TheVariants.{Is, Wrong}
 
 -- ---- words, "one space between" (byte 32)
 
@@ -52,28 +46,28 @@ abbrev pub is_automatic : List ℕ → Bool
 is_automatic w = same_word (bytes "automatic") w
 
 -- "unused values 0": only a target has a second value, and hold and automatic have none
-unfoldable pub command_of : List ℕ → ℤ → ℤ → Asked
+unfoldable pub command_of : List ℕ → ℤ → ℤ → Option Command
 command_of w value second =
-    cond (is_target w) (asked.Is (Target value second))
+    cond (is_target w) (Some (Target value second))
     (cond (eq_z second (pos 0))
-    (cond (is_sample w) (asked.Is (Sample value))
-    (cond (is_put w) (asked.Is (Put value))
-    (cond (is_set w) (asked.Is (Set value))
+    (cond (is_sample w) (Some (Sample value))
+    (cond (is_put w) (Some (Put value))
+    (cond (is_set w) (Some (Set value))
     (cond (eq_z value (pos 0))
-    (cond (is_hold w) (asked.Is Hold)
-    (cond (is_automatic w) (asked.Is Automatic) asked.Wrong))
-    asked.Wrong))))
-    asked.Wrong)
+    (cond (is_hold w) (Some Hold)
+    (cond (is_automatic w) (Some Automatic) None))
+    None))))
+    None)
 
-abbrev pub asking : List ℕ → Decimal → Decimal → Asked
-asking w decimal.Wrong second = asked.Wrong
-asking w (decimal.Is v) decimal.Wrong = asked.Wrong
-asking w (decimal.Is v) (decimal.Is s) = command_of w v s
+abbrev pub asking : List ℕ → Option ℤ → Option ℤ → Option Command
+asking w None second = None
+asking w (Some v) None = None
+asking w (Some v) (Some s) = command_of w v s
 
-abbrev pub delivering : Number → Asked → Delivery
-delivering number.Wrong a = Wrong
-delivering (number.Is n) asked.Wrong = Wrong
-delivering (number.Is n) (asked.Is c) = Is n c
+abbrev pub delivering : Option ℕ → Option Command → Option Delivery
+delivering None a = None
+delivering (Some n) None = None
+delivering (Some n) (Some c) = Some (record { number = n; command = c })
 
 -- ---- the line
 
@@ -89,7 +83,7 @@ value_key = bytes "value="
 abbrev pub second_key : List ℕ
 second_key = bytes "second="
 
-unfoldable pub delivery_of : List ℕ → Delivery
+unfoldable pub delivery_of : List ℕ → Option Delivery
 delivery_of s =
     delivering (number_in (field_in number_key (word_in s)))
     (asking (field_in command_key (word_in (rest_in s))) (signed_in (field_in value_key (word_in (rest_in (rest_in s)))))

@@ -2,123 +2,83 @@
 #![tactic(auto)]
 
 ghost use Rattle.std.specs.Prelude.{◌≡◌};
-ghost use Rattle.delivery_line.specs.Line.{word_in, rest_in, field_in, same_word, command_of, asking, delivery_of};
+ghost use Rattle.delivery_line.specs.Line.{word_in, rest_in, field_in, same_word, command_of, delivery_of};
 
 use command::Command;
-use word::decimal::Decimal;
-use word::end::{begins, end_at};
-use word::number::{Number, signed};
+use word::end::end_at;
+use word::number::{read_signed, read_unsigned};
 
-// What a line asks: a command under a number, or it is of wrong form.
-#[derive(Clone, Copy)]
-pub enum Delivery {
-    Is(u32, Command),
-    Wrong,
+// What a line asks: a command under a number.
+#[derive(Clone, Copy, Debug, PartialEq, Eq)]
+pub struct Delivery {
+    pub number: u32,
+    pub command: Command,
 }
 
-// The command of a line, or none.
-#[derive(Clone, Copy)]
-enum Asked {
-    Is(Command),
-    Wrong,
-}
-
-// What stands before the first space.
-fn word_in(rest: &[u8]) -> &[u8]
-    ensures { result.now ≡ word_in rest.now }
+// What stands before the first space, and what stands after it.
+fn cut(text: &[u8]) -> (&[u8], &[u8])
+    ensures front { result.0.now ≡ word_in text.now }
+    ensures back { result.1.now ≡ rest_in text.now }
 {
-    let end = end_at(rest, b' ');
-    &rest[..end]
-}
-
-// What stands after it.
-fn rest_in(rest: &[u8]) -> &[u8]
-    ensures { result.now ≡ rest_in rest.now }
-{
-    let end = end_at(rest, b' ');
-    if end < rest.len() {
-        return &rest[end + 1..];
-    }
-    &rest[end..]
+    let end = end_at(text, b' ');
+    let length = text.len();
+    (&text[..end], &text[length.min(end + 1)..])
 }
 
 // What stands after a word's key, and nothing where the word has another.
 fn field<'a, 'b>(key: &'a [u8], word: &'b [u8]) -> &'b [u8]
     ensures { result.now ≡ field_in key.now word.now }
 {
-    if begins(key, word) {
-        let n = key.len();
-        return &word[n..];
-    }
-    &word[..0]
+    word.strip_prefix(key).unwrap_or(&[])
 }
 
 fn same_word(key: &[u8], word: &[u8]) -> bool
     ensures { result ≡ same_word key.now word.now }
 {
-    begins(key, word) & (word.len() == key.len())
+    word == key
 }
 
 // "unused values 0"
-fn command(word: &[u8], value: i32, second: i32) -> Asked
+fn command(word: &[u8], value: i32, second: i32) -> Option<Command>
     ensures { result ≡ command_of word.now value second }
 {
     if same_word(b"target", word) {
-        return Asked::Is(Command::Target(value, second));
+        return Some(Command::Target(value, second));
     }
-    if !whole::equal(second, 0) {
-        return Asked::Wrong;
+    if second != 0 {
+        return None;
     }
     if same_word(b"sample", word) {
-        return Asked::Is(Command::Sample(value));
+        return Some(Command::Sample(value));
     }
     if same_word(b"put", word) {
-        return Asked::Is(Command::Put(value));
+        return Some(Command::Put(value));
     }
     if same_word(b"set", word) {
-        return Asked::Is(Command::Set(value));
+        return Some(Command::Set(value));
     }
-    if !whole::equal(value, 0) {
-        return Asked::Wrong;
+    if value != 0 {
+        return None;
     }
     if same_word(b"hold", word) {
-        return Asked::Is(Command::Hold);
+        return Some(Command::Hold);
     }
     if same_word(b"automatic", word) {
-        return Asked::Is(Command::Automatic);
+        return Some(Command::Automatic);
     }
-    Asked::Wrong
-}
-
-// The command, where both values are numbers.
-fn ask(word: &[u8], value: Decimal, second: Decimal) -> Asked
-    ensures { result ≡ asking word.now value second }
-{
-    match value {
-        Decimal::Wrong => Asked::Wrong,
-        Decimal::Is(v) => match second {
-            Decimal::Wrong => Asked::Wrong,
-            Decimal::Is(s) => command(word, v, s),
-        },
-    }
+    None
 }
 
 // `number=N command=WORD value=V second=S`, "in that order, one space between"
-pub fn parse(line: &[u8]) -> Delivery
+pub fn parse(line: &[u8]) -> Option<Delivery>
     ensures { result ≡ delivery_of line.now }
 {
-    let rest = rest_in(line);
-    let last = rest_in(rest);
-    let number = Number::of(field(b"number=", word_in(line)));
-    let word = field(b"command=", word_in(rest));
-    let value = signed(field(b"value=", word_in(last)));
-    let second = signed(field(b"second=", rest_in(last)));
-    let asked = ask(word, value, second);
-    match number {
-        Number::Wrong => Delivery::Wrong,
-        Number::Is(n) => match asked {
-            Asked::Wrong => Delivery::Wrong,
-            Asked::Is(c) => Delivery::Is(n, c),
-        },
-    }
+    let (first, rest) = cut(line);
+    let (word, last) = cut(rest);
+    let (third, fourth) = cut(last);
+    let number = read_unsigned(field(b"number=", first))?;
+    let value = read_signed(field(b"value=", third))?;
+    let second = read_signed(field(b"second=", fourth))?;
+    let command = command(field(b"command=", word), value, second)?;
+    Some(Delivery { number, command })
 }

@@ -1,12 +1,24 @@
-use mathlib.Core.Path.{◌≡◌}
+use mathlib.Core.Path.{◌≡◌, sym, ◌∙◌}
 use mathlib.Core.Bool.{true, false}
-use lib.IntN.{pos}
+use native.Mathlib.Omega.{arith}
+use borrow.Author.Tests.{eq-eqb, ne_eqb}
+use lib.IntN.{ℤ, pos}
+use mir.Syntax.{w32}
+use mir.Val.{SFits, of_z}
 use mir.Facts.{to_z-of_z}
 use Rattle.whole.specs.Numbers.{eq_z}
 use Rattle.whole.proofs.Truth.{so}
+use Rattle.whole.proofs.Bits.{same_bits}
 use Rattle.delivery_line.specs.Line.{is_target, is_sample, is_put, is_set, is_hold, is_automatic, command_of}
 use Rattle.delivery_line.proofs.command.Goals as goal
-use Rattle.delivery_line.proofs.command.Goals.{Else-not-equal, Else-not-equal-2, Else-same_word, Else-same_word-2, Else-same_word-3, Else-same_word-4, Else-same_word-5, Else-same_word-6, Then-not-equal, Then-not-equal-2, Then-same_word, Then-same_word-2, Then-same_word-3, Then-same_word-4, Then-same_word-5, Then-same_word-6}
+use Rattle.delivery_line.proofs.command.Goals.{Else-second-ne0, Else-value-ne0, Else-same_word, Else-same_word-2, Else-same_word-3, Else-same_word-4, Else-same_word-5, Else-same_word-6, Then-second-ne0, Then-value-ne0, Then-same_word, Then-same_word-2, Then-same_word-3, Then-same_word-4, Then-same_word-5, Then-same_word-6}
+
+-- a test against 0, said of the number
+zero : (z : ℤ) → SFits w32 z → of_z w32 z ≡ 0 → eq_z z (pos 0) ≡ true
+zero z f e = sym (same_bits w32 z (pos 0) f (record { sfits = omega arith })) ∙ eq-eqb _ _ e
+
+not_zero : (z : ℤ) → SFits w32 z → (of_z w32 z ≡ 0 → ⊥) → eq_z z (pos 0) ≡ false
+not_zero z f e = sym (same_bits w32 z (pos 0) f (record { sfits = omega arith })) ∙ ne_eqb _ _ e
 
 yes_1 : (c : Then-same_word) → is_target c.args.word.now ≡ true
 yes_1 c = so c.same_word.ensures c.if-same_word.true
@@ -14,11 +26,11 @@ yes_1 c = so c.same_word.ensures c.if-same_word.true
 no_1 : (c : Else-same_word) → is_target c.args.word.now ≡ false
 no_1 c = so c.same_word.ensures c.if-same_word.false
 
-yes_2 : (c : Then-not-equal) → eq_z c.args.second (pos 0) ≡ false
-yes_2 c = so (rw (to_z-of_z c.ranges.second) at c.equal.ensures) c.if-not-equal.true
+yes_2 : (c : Then-second-ne0) → eq_z c.args.second (pos 0) ≡ false
+yes_2 c = not_zero _ c.ranges.second c.if-second-ne0.true
 
-no_2 : (c : Else-not-equal) → eq_z c.args.second (pos 0) ≡ true
-no_2 c = so (rw (to_z-of_z c.ranges.second) at c.equal.ensures) c.if-not-equal.false
+no_2 : (c : Else-second-ne0) → eq_z c.args.second (pos 0) ≡ true
+no_2 c = zero _ c.ranges.second c.if-second-ne0.false
 
 yes_3 : (c : Then-same_word-2) → is_sample c.args.word.now ≡ true
 yes_3 c = so c.same_word-2.ensures c.if-same_word-2.true
@@ -38,11 +50,11 @@ yes_5 c = so c.same_word-4.ensures c.if-same_word-4.true
 no_5 : (c : Else-same_word-4) → is_set c.args.word.now ≡ false
 no_5 c = so c.same_word-4.ensures c.if-same_word-4.false
 
-yes_6 : (c : Then-not-equal-2) → eq_z c.args.value (pos 0) ≡ false
-yes_6 c = so (rw (to_z-of_z c.ranges.value) at c.equal-2.ensures) c.if-not-equal-2.true
+yes_6 : (c : Then-value-ne0) → eq_z c.args.value (pos 0) ≡ false
+yes_6 c = not_zero _ c.ranges.value c.if-value-ne0.true
 
-no_6 : (c : Else-not-equal-2) → eq_z c.args.value (pos 0) ≡ true
-no_6 c = so (rw (to_z-of_z c.ranges.value) at c.equal-2.ensures) c.if-not-equal-2.false
+no_6 : (c : Else-value-ne0) → eq_z c.args.value (pos 0) ≡ true
+no_6 c = zero _ c.ranges.value c.if-value-ne0.false
 
 yes_7 : (c : Then-same_word-5) → is_hold c.args.word.now ≡ true
 yes_7 c = so c.same_word-5.ensures c.if-same_word-5.true
@@ -60,34 +72,34 @@ pub returns-then-same_word : goal.returns-then-same_word
 unfolding command_of
 returns-then-same_word c = rw (yes_1 (goal.at.returns-then-same_word c).Then-same_word, to_z-of_z c.ranges.value, to_z-of_z c.ranges.second)
 
-pub returns-then-not-equal : goal.returns-then-not-equal
+pub returns-then-second-ne0 : goal.returns-then-second-ne0
 unfolding command_of
-returns-then-not-equal c = rw (no_1 (goal.at.returns-then-not-equal c).Else-same_word, yes_2 (goal.at.returns-then-not-equal c).Then-not-equal)
+returns-then-second-ne0 c = rw (no_1 (goal.at.returns-then-second-ne0 c).Else-same_word, yes_2 (goal.at.returns-then-second-ne0 c).Then-second-ne0)
 
 pub returns-then-same_word-2 : goal.returns-then-same_word-2
 unfolding command_of
-returns-then-same_word-2 c = rw (no_1 (goal.at.returns-then-same_word-2 c).Else-same_word, no_2 (goal.at.returns-then-same_word-2 c).Else-not-equal, yes_3 (goal.at.returns-then-same_word-2 c).Then-same_word-2, to_z-of_z c.ranges.value)
+returns-then-same_word-2 c = rw (no_1 (goal.at.returns-then-same_word-2 c).Else-same_word, no_2 (goal.at.returns-then-same_word-2 c).Else-second-ne0, yes_3 (goal.at.returns-then-same_word-2 c).Then-same_word-2, to_z-of_z c.ranges.value)
 
 pub returns-then-same_word-3 : goal.returns-then-same_word-3
 unfolding command_of
-returns-then-same_word-3 c = rw (no_1 (goal.at.returns-then-same_word-3 c).Else-same_word, no_2 (goal.at.returns-then-same_word-3 c).Else-not-equal, no_3 (goal.at.returns-then-same_word-3 c).Else-same_word-2, yes_4 (goal.at.returns-then-same_word-3 c).Then-same_word-3, to_z-of_z c.ranges.value)
+returns-then-same_word-3 c = rw (no_1 (goal.at.returns-then-same_word-3 c).Else-same_word, no_2 (goal.at.returns-then-same_word-3 c).Else-second-ne0, no_3 (goal.at.returns-then-same_word-3 c).Else-same_word-2, yes_4 (goal.at.returns-then-same_word-3 c).Then-same_word-3, to_z-of_z c.ranges.value)
 
 pub returns-then-same_word-4 : goal.returns-then-same_word-4
 unfolding command_of
-returns-then-same_word-4 c = rw (no_1 (goal.at.returns-then-same_word-4 c).Else-same_word, no_2 (goal.at.returns-then-same_word-4 c).Else-not-equal, no_3 (goal.at.returns-then-same_word-4 c).Else-same_word-2, no_4 (goal.at.returns-then-same_word-4 c).Else-same_word-3, yes_5 (goal.at.returns-then-same_word-4 c).Then-same_word-4, to_z-of_z c.ranges.value)
+returns-then-same_word-4 c = rw (no_1 (goal.at.returns-then-same_word-4 c).Else-same_word, no_2 (goal.at.returns-then-same_word-4 c).Else-second-ne0, no_3 (goal.at.returns-then-same_word-4 c).Else-same_word-2, no_4 (goal.at.returns-then-same_word-4 c).Else-same_word-3, yes_5 (goal.at.returns-then-same_word-4 c).Then-same_word-4, to_z-of_z c.ranges.value)
 
-pub returns-then-not-equal-2 : goal.returns-then-not-equal-2
+pub returns-then-value-ne0 : goal.returns-then-value-ne0
 unfolding command_of
-returns-then-not-equal-2 c = rw (no_1 (goal.at.returns-then-not-equal-2 c).Else-same_word, no_2 (goal.at.returns-then-not-equal-2 c).Else-not-equal, no_3 (goal.at.returns-then-not-equal-2 c).Else-same_word-2, no_4 (goal.at.returns-then-not-equal-2 c).Else-same_word-3, no_5 (goal.at.returns-then-not-equal-2 c).Else-same_word-4, yes_6 (goal.at.returns-then-not-equal-2 c).Then-not-equal-2)
+returns-then-value-ne0 c = rw (no_1 (goal.at.returns-then-value-ne0 c).Else-same_word, no_2 (goal.at.returns-then-value-ne0 c).Else-second-ne0, no_3 (goal.at.returns-then-value-ne0 c).Else-same_word-2, no_4 (goal.at.returns-then-value-ne0 c).Else-same_word-3, no_5 (goal.at.returns-then-value-ne0 c).Else-same_word-4, yes_6 (goal.at.returns-then-value-ne0 c).Then-value-ne0)
 
 pub returns-then-same_word-5 : goal.returns-then-same_word-5
 unfolding command_of
-returns-then-same_word-5 c = rw (no_1 (goal.at.returns-then-same_word-5 c).Else-same_word, no_2 (goal.at.returns-then-same_word-5 c).Else-not-equal, no_3 (goal.at.returns-then-same_word-5 c).Else-same_word-2, no_4 (goal.at.returns-then-same_word-5 c).Else-same_word-3, no_5 (goal.at.returns-then-same_word-5 c).Else-same_word-4, no_6 (goal.at.returns-then-same_word-5 c).Else-not-equal-2, yes_7 (goal.at.returns-then-same_word-5 c).Then-same_word-5)
+returns-then-same_word-5 c = rw (no_1 (goal.at.returns-then-same_word-5 c).Else-same_word, no_2 (goal.at.returns-then-same_word-5 c).Else-second-ne0, no_3 (goal.at.returns-then-same_word-5 c).Else-same_word-2, no_4 (goal.at.returns-then-same_word-5 c).Else-same_word-3, no_5 (goal.at.returns-then-same_word-5 c).Else-same_word-4, no_6 (goal.at.returns-then-same_word-5 c).Else-value-ne0, yes_7 (goal.at.returns-then-same_word-5 c).Then-same_word-5)
 
 pub returns-then-same_word-6 : goal.returns-then-same_word-6
 unfolding command_of
-returns-then-same_word-6 c = rw (no_1 (goal.at.returns-then-same_word-6 c).Else-same_word, no_2 (goal.at.returns-then-same_word-6 c).Else-not-equal, no_3 (goal.at.returns-then-same_word-6 c).Else-same_word-2, no_4 (goal.at.returns-then-same_word-6 c).Else-same_word-3, no_5 (goal.at.returns-then-same_word-6 c).Else-same_word-4, no_6 (goal.at.returns-then-same_word-6 c).Else-not-equal-2, no_7 (goal.at.returns-then-same_word-6 c).Else-same_word-5, yes_8 (goal.at.returns-then-same_word-6 c).Then-same_word-6)
+returns-then-same_word-6 c = rw (no_1 (goal.at.returns-then-same_word-6 c).Else-same_word, no_2 (goal.at.returns-then-same_word-6 c).Else-second-ne0, no_3 (goal.at.returns-then-same_word-6 c).Else-same_word-2, no_4 (goal.at.returns-then-same_word-6 c).Else-same_word-3, no_5 (goal.at.returns-then-same_word-6 c).Else-same_word-4, no_6 (goal.at.returns-then-same_word-6 c).Else-value-ne0, no_7 (goal.at.returns-then-same_word-6 c).Else-same_word-5, yes_8 (goal.at.returns-then-same_word-6 c).Then-same_word-6)
 
 pub returns : goal.returns
 unfolding command_of
-returns c = rw (no_1 (goal.at.returns c).Else-same_word, no_2 (goal.at.returns c).Else-not-equal, no_3 (goal.at.returns c).Else-same_word-2, no_4 (goal.at.returns c).Else-same_word-3, no_5 (goal.at.returns c).Else-same_word-4, no_6 (goal.at.returns c).Else-not-equal-2, no_7 (goal.at.returns c).Else-same_word-5, no_8 (goal.at.returns c).Else-same_word-6)
+returns c = rw (no_1 (goal.at.returns c).Else-same_word, no_2 (goal.at.returns c).Else-second-ne0, no_3 (goal.at.returns c).Else-same_word-2, no_4 (goal.at.returns c).Else-same_word-3, no_5 (goal.at.returns c).Else-same_word-4, no_6 (goal.at.returns c).Else-value-ne0, no_7 (goal.at.returns c).Else-same_word-5, no_8 (goal.at.returns c).Else-same_word-6)

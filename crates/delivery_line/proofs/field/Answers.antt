@@ -1,28 +1,25 @@
-use Prim.Native.Nat.{◌≤◌}
-use mathlib.Core.Path.{sym, ◌∙◌}
-use lib.ListN.{length}
-use Rattle.whole.proofs.Truth.{so, cond_yes, cond_no}
-use Rattle.whole.proofs.Lists.{part_left}
-use Rattle.word.proofs.Words.{begun_long}
+use Prim.Native.Nat.{ℕ, ◌+◌}
+use mathlib.Core.Path.{◌≡◌, refl, sym, ap, ◌∙◌}
+use mathlib.Core.Bool.{true, false}
+use mathlib.Core.List.{List, []}
+use lib.Dec.{eqb}
+use lib.ListN.{length, take, drop}
+use lib.Pointwise.{pointwise}
+use denote.Ref.{Bor}
+use Rattle.std.specs.Prelude.{Option, Some, None}
+use Rattle.std.specs.Option.{MatchOption, unwrap_or}
+use Rattle.whole.proofs.Truth.{cond_yes, cond_no}
+use Rattle.word.proofs.Words.{front_begins}
 use Rattle.delivery_line.specs.Line.{field_in}
 use Rattle.delivery_line.proofs.field.Goals as goal
-use Rattle.delivery_line.proofs.field.Goals.{Then-begins}
 
--- a word with the key is as long as the key
-there : (c : Then-begins) → length c.args.key.now ≤ length c.args.word.now
-there c = begun_long c.args.key.now c.args.word.now (so c.begins.ensures c.if-begins.true)
-
-pub slice_bounds-result-count : goal.slice_bounds-result-count
-slice_bounds-result-count c = there (goal.at.slice_bounds-result-count c).Then-begins
-
-pub slice_bounds-result-start : goal.slice_bounds-result-start
-slice_bounds-result-start c = there (goal.at.slice_bounds-result-start c).Then-begins
-
-pub returns-then-begins : goal.returns-then-begins
+after : (key word : List ℕ) (o : Option (Bor (List ℕ))) (none : Bor (List ℕ)) → none.now ≡ [] →
+    MatchOption o (pointwise eqb (take (length key) word) key ≡ false)
+    (λ x. (pointwise eqb (take (length key) word) key ≡ true) × (x.now ≡ drop (length key) word) × (length x.now + length key ≡ length word)) →
+    (unwrap_or o none).now ≡ field_in key word
 unfolding field_in
-returns-then-begins c =
-    part_left c.args.word.now (length c.args.key.now) ∙ sym (cond_yes _ _ (so c.begins.ensures c.if-begins.true))
+after key word None none e h = e ∙ sym (cond_no _ _ (sym (front_begins key word) ∙ h))
+after key word (Some x) none e h = h.1 ∙ sym (cond_yes _ _ (sym (front_begins key word) ∙ h.0))
 
 pub returns : goal.returns
-unfolding field_in
-returns c = sym (cond_no _ _ (so c.begins.ensures c.if-begins.false))
+returns c = ap (λ (x : Bor (List ℕ)). x.now) c.unwrap_or.ensures ∙ after c.args.key.now c.args.word.now c.strip_prefix.result _ refl c.strip_prefix.ensures.cases
