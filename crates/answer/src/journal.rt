@@ -6,7 +6,7 @@ ghost use Rattle.answer.specs.Journal.{answer_text, journal_answer, journal_line
 
 use crate::verdict::{Judged, refused};
 use delivery::numbered::{Delivered, Numbered};
-use delivery_line::{Delivery, parse};
+use delivery_line::parse;
 use word::buffer::{put, put_decimal};
 
 // ` code=C output=U last=L` and a line feed, from place at on; the place after it.
@@ -43,9 +43,8 @@ fn reply(line: &[u8], told: Delivered, out: &mut [u8]) -> Judged
 pub(crate) fn journal_line(state: Numbered, line: &[u8], out: &mut [u8]) -> Judged
     ensures { Judges (length line.now) (journal_line state line.now) out.old result out.new }
 {
-    let asked = parse(line);
-    match asked {
-        Delivery::Wrong => refused(state, 14),
-        Delivery::Is(n, c) => reply(line, state.deliver(n, c), out),
+    match parse(line) {
+        None => refused(state, 14),
+        Some(asked) => reply(line, state.deliver(asked.number, asked.command), out),
     }
 }

@@ -13,7 +13,6 @@ use Rattle.delivery.proofs.promises.Delivery.{again_valid}
 use Rattle.std.specs.Prelude.{ℤ, Option, Some, None}
 use Rattle.word.specs.Decimal.{decimal_of}
 use Rattle.delivery_line.specs.declared.Delivery.{Delivery}
-use Rattle.delivery_line.specs.declared.Delivery.TheVariants.{Is, Wrong}
 use Rattle.delivery_line.specs.Line.{delivery_of}
 use Rattle.answer.specs.Verdict.{Verdict}
 use Rattle.answer.specs.Oven.{sampled_of, by_answer, by_sample, by_decimal, sample_line}
@@ -32,9 +31,9 @@ sample_quiet l (Some pv) =
     chosen Quiet (eqb l.memory.number last_number) (λ _ _. refl)
     (λ _. chosen Quiet (eqb (sampled_of l pv).code 0) (λ _ h. absurd (h refl)) (λ _ _. refl))
 
-delivery_quiet : (l : Numbered) (w : List ℕ) (d : Delivery) → Quiet (by_delivery l w d)
-delivery_quiet l w Wrong = λ _. refl
-delivery_quiet l w (Is n c) = λ h. absurd (h refl)
+delivery_quiet : (l : Numbered) (w : List ℕ) (d : Option Delivery) → Quiet (by_delivery l w d)
+delivery_quiet l w None = λ _. refl
+delivery_quiet l w (Some d) = λ h. absurd (h refl)
 
 pub refused_quiet : (journal : Bool) (l : Numbered) (w : List ℕ) → ((judged_by journal l w).code ≡ 0 → ⊥) → (judged_by journal l w).text ≡ []
 unfolding sample_line journal_line
@@ -54,9 +53,9 @@ module _ (l : Numbered) (v : valid_of l ≡ true) where
       let g = again_valid l _ (Sample pv) v in
       chosen Good (eqb l.memory.number last_number) (λ _. v) (λ _. chosen Good (eqb (sampled_of l pv).code 0) (λ _. g) (λ _. g))
 
-  delivery_good : (w : List ℕ) (d : Delivery) → Good (by_delivery l w d)
-  delivery_good w Wrong = v
-  delivery_good w (Is n c) = again_valid l n c v
+  delivery_good : (w : List ℕ) (d : Option Delivery) → Good (by_delivery l w d)
+  delivery_good w None = v
+  delivery_good w (Some d) = again_valid l d.number d.command v
 
 pub judged_valid : (journal : Bool) (l : Numbered) → valid_of l ≡ true → (w : List ℕ) → valid_of (judged_by journal l w).state ≡ true
 unfolding sample_line journal_line
