@@ -4,6 +4,7 @@ use Prim.Native.Nat.{ℕ, ◌+◌, ◌≤◌}
 use mathlib.Core.Path.{◌≡◌, refl, sym, ap, ap₂, ◌∙◌}
 use mathlib.Core.Bool.{true}
 use mathlib.Core.List.{List, [], ◌∷◌, map}
+use native.Mathlib.Omega.{arith}
 use borrow.Author.Tests.{eq-eqb}
 use lib.IntN.{ℤ}
 use lib.ListN.{length, take, drop, length-map}
@@ -17,8 +18,7 @@ use Rattle.record.specs.Record.{guard_of}
 use Rattle.record.specs.Refusals.{refusal_of}
 use Rattle.pid.specs.Law.{step_of}
 use Rattle.command.specs.Sequence.{each}
-use Rattle.pid.specs.declared.play.Played.{Played}
-use Rattle.pid.specs.Play.{after_samples, outputs_of, play_refusal, played_of, wrote_of}
+use Rattle.pid.specs.Play.{Played, after_samples, outputs_of, play_refusal, played_of, wrote_of}
 use Rattle.pid.proofs.Plays.{good_first, after_commands, outputs_length, played_refused, played_done, playable}
 use Rattle.memory.specs.declared.Entry.{Entry}
 use Rattle.memory.specs.declared.Memory.{Memory}
@@ -30,7 +30,7 @@ use Rattle.delivery.specs.Numbered.{memory_ok, valid_of}
 use Rattle.delivery.specs.Demand3.{plain, kept_entries, after_kept, standing}
 use Rattle.delivery.specs.Replay.{numbered, record_after, delivered_outputs, numbers_left, replay_refusal, done_of, refused_of}
 use Rattle.delivery.proofs.Ended.{end_from, answers_from}
-use Rattle.delivery.proofs.ReplayOrder.{as_played, Replays, refuses, done}
+use Rattle.delivery.proofs.ReplayOrder.{numbers_0, as_played, Replays, refuses, done}
 
 -- ---- each good sample with the next number is kept
 
@@ -109,7 +109,7 @@ module _ (s : Numbered) (pvs out : List ℤ) (m : memory_ok s ≡ true) (long : 
   played = played_of s.state pvs (length out)
 
   law's : replay_refusal s next pvs (length out) ≡ play_refusal s.state pvs (length out)
-  law's = as_played s next pvs (length out) m refl long numbers
+  law's = as_played s next pvs (length out) m (numbers_0 s next (length pvs) (length out) (omega arith) (omega arith) long numbers) long
 
   pub played_stops : (played.code ≡ 0 → ⊥) → Replays s next pvs out (refused_of s played.code played.place) (wrote_of s.state pvs out)
   played_stops z =

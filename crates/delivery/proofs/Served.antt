@@ -12,8 +12,7 @@ use Rattle.record.specs.Record.{valid}
 use Rattle.record.specs.Refusals.{refusal_of}
 use Rattle.record.proofs.Rules.{holds_of}
 use Rattle.record.proofs.Refused.{never_ten}
-use Rattle.pid.specs.declared.law.Obeyed.{Obeyed}
-use Rattle.pid.specs.Law.{step_of, law_of}
+use Rattle.pid.specs.Law.{Obeyed, step_of, law_of}
 use Rattle.pid.proofs.Kept.{step_valid}
 use Rattle.pid.proofs.Obeys.{obeys, refuses, breaks, settings_stay}
 use Rattle.command.proofs.Same.{same_self}
@@ -24,15 +23,14 @@ use Rattle.memory.specs.Memory.{window, memory_ok as memory_rules, is_last, entr
 use Rattle.memory.proofs.Order.{InWindow, Means, means, number_zero, number_old, number_within, number_next, newest_first, repeated}
 use Rattle.memory.proofs.Rules.{remembered_ok}
 use Rattle.delivery.specs.declared.numbered.Numbered.{Numbered}
-use Rattle.delivery.specs.declared.numbered.Delivered.{Delivered}
-use Rattle.delivery.specs.Numbered.{memory_ok, valid_of, answer_of, broken_of, repeat_of, kept_of, served_of, delivered_of, tried_of}
+use Rattle.delivery.specs.Numbered.{Delivered, memory_ok, valid_of, answer_of, broken_of, refused_as, repeat_of, kept_of, served_of, delivered_of, tried_of}
 
 -- ---- the ways of `deliver`
 
 -- what is made of the law's answer
 abbrev pub made_by : Numbered → ℕ → Command → Obeyed → Delivered
 made_by s n c o =
-    cond (eqb o.code 10) (broken_of s) (cond (eqb o.code 0) (answer_of 0 (kept_of s o.state n c)) (answer_of o.code s))
+    cond (eqb o.code 0) (answer_of 0 (kept_of s o.state n c)) (refused_as o.code s)
 
 module _ (s : Numbered) (n : ℕ) (c : Command) where
   made : made_by s n c (law_of s.state c) ≡ tried_of s n c

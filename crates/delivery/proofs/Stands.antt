@@ -26,8 +26,7 @@ use Rattle.memory.specs.Walk.{Answer, Kept, Walk, keeps, kept_answer, keeping, o
 use Rattle.memory.proofs.Order.{number_zero, number_old, number_within, number_ahead, number_next, Means, means}
 use Rattle.memory.proofs.Walked.{Sent, Runs, found_at, refusing, looked, tried, served, Engine, number_next as kept_next}
 use Rattle.delivery.specs.declared.numbered.Numbered.{Numbered}
-use Rattle.delivery.specs.declared.numbered.Delivered.{Delivered}
-use Rattle.delivery.specs.Numbered.{record_of, kept_of, served_of, delivered_of}
+use Rattle.delivery.specs.Numbered.{Delivered, record_of, kept_of, served_of, delivered_of}
 use Rattle.delivery.specs.Demand3.{plain, answer_in, answered, handed_back}
 
 -- ---- the places of a memory

@@ -9,8 +9,7 @@ use Rattle.window.specs.Window.{fresh_window}
 use Rattle.record.specs.Record.{fresh_of}
 use Rattle.memory.specs.Memory.{last_number, window, entry_of}
 use Rattle.delivery.specs.declared.numbered.Numbered.{Numbered}
-use Rattle.delivery.specs.declared.numbered.Delivered.{Delivered}
-use Rattle.delivery.specs.Numbered.{record_of, new_of, delivered_of}
+use Rattle.delivery.specs.Numbered.{Delivered, record_of, new_of, delivered_of}
 
 -- ---- rows
 

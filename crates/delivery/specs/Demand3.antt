@@ -17,8 +17,7 @@ use Rattle.memory.specs.declared.Entry.{Entry}
 use Rattle.memory.specs.Memory.{window, entry_of, newest}
 use Rattle.memory.specs.Walk.{Law, Delivery, Answer, Kept, Walk, onward, answer_to, kept}
 use Rattle.delivery.specs.declared.numbered.Numbered.{Numbered}
-use Rattle.delivery.specs.declared.numbered.Delivered.{Delivered}
-use Rattle.delivery.specs.Numbered.{record_of, delivered_of}
+use Rattle.delivery.specs.Numbered.{Delivered, record_of, delivered_of}
 
 -- 01's loop: "The plain law knows no numbers."
 abbrev pub plain : Law

@@ -1,8 +1,10 @@
 -- 01, "Numbered delivery", amended by 02's request 6: a loop with what it remembers, and what comes back when a command is delivered
 -- under a number, from any record.
-use Rattle.std.specs.Prelude.{ℕ, Bool, cond, ◌&&◌, List, eqb, pos}
+use Rattle.std.specs.Prelude.{ℕ, Bool, cond, ◌&&◌, List, eqb, ℤ, pos}
+use Rattle.refusal.specs.Refusal.{code_in}
 use Rattle.settings.specs.declared.Settings.{Settings}
 use Rattle.command.specs.declared.Command.{Command}
+use Rattle.record.specs.declared.After.{After}
 use Rattle.record.specs.declared.Loop.{Loop}
 use Rattle.record.specs.Record.{blank_loop, valid}
 use Rattle.record.specs.Record.{made_of as loop_made_of}
@@ -13,8 +15,7 @@ use Rattle.memory.specs.declared.Found.{Found}
 use Rattle.memory.specs.declared.Found.TheVariants.{Old, Reused, Repeated, Ahead, Next}
 use Rattle.memory.specs.Memory.{no_memory, remembered, memory_ok as memory_rules, found_of}
 use Rattle.delivery.specs.declared.numbered.Numbered.{Numbered}
-use Rattle.delivery.specs.declared.numbered.Made.{Made}
-use Rattle.delivery.specs.declared.numbered.Delivered.{Delivered}
+use Rattle.delivery.specs.declared.numbered.Delivered.{Delivered as Delivering}
 
 -- ---- the record
 
@@ -30,6 +31,14 @@ new_of l = record { state = l; memory = no_memory }
 abbrev pub blank_of : Numbered
 blank_of = new_of blank_loop
 
+-- what a making tells: its code, and the record beside it
+pub record Made : Type 0 where
+  pub code : ℕ
+  pub state : Numbered
+
+abbrev pub made_told : After Numbered → Made
+made_told m = record { code = code_in m.outcome; state = m.state }
+
 -- "Making a loop from settings tests 11, then 16. Where making a loop [..] is refused, what stands beside the code is the blank"
 abbrev pub made_of : Settings → Made
 made_of s = record { code = (loop_made_of s).code; state = new_of (loop_made_of s).state }
@@ -44,6 +53,16 @@ valid_of s = memory_ok s && valid s.state
 
 -- ---- the answer
 
+-- what a delivery tells: its answer, and the record beside it
+pub record Delivered : Type 0 where
+  pub code : ℕ
+  pub output : ℤ
+  pub number : ℕ
+  pub state : Numbered
+
+abbrev pub delivered_told : Delivering → Delivered
+delivered_told d = record { code = code_in d.outcome; output = d.output; number = d.number; state = d.state }
+
 -- "An answer is a code, the output in force and the last number in force, both read after the call."
 abbrev pub answer_of : ℕ → Numbered → Delivered
 answer_of code s = record { code = code; output = s.state.u; number = s.memory.number; state = s }
@@ -51,6 +70,10 @@ answer_of code s = record { code = code; output = s.state.u; number = s.memory.n
 -- "A record breaking the state rules gets code 10, output 0 and number 0."
 abbrev pub broken_of : Numbered → Delivered
 broken_of s = record { code = 10; output = pos 0; number = 0; state = s }
+
+-- the answer of a code with which the law refuses a command: 10 is a record's that breaks the state rules
+abbrev pub refused_as : ℕ → Numbered → Delivered
+refused_as code s = cond (eqb code 10) (broken_of s) (answer_of code s)
 
 -- "gets its first answer again: code 0, that output and its own number"
 abbrev pub repeat_of : ℕ → Entry → Numbered → Delivered

@@ -1,11 +1,13 @@
 // 01's record as the queue sees it: a loop and what it remembers of its deliveries. Making one, its state rules, a delivery.
 ghost use Rattle.std.specs.Prelude.{◌≡◌};
-ghost use Rattle.delivery.specs.Numbered.{new_of, made_of, blank_of, memory_ok, valid_of, answer_of, broken_of, repeat_of, kept_of, settled_of, tried_of, delivered_of};
+ghost use Rattle.refusal.specs.Refusal.{code_for, code_in};
+ghost use Rattle.delivery.specs.Numbered.{new_of, made_told, made_of, blank_of, memory_ok, valid_of, delivered_told, answer_of, broken_of, refused_as, repeat_of, kept_of, settled_of, tried_of, delivered_of};
 
 use command::Command;
 use memory::{Entry, Found, Memory};
 use pid::law::obey;
-use record::Loop;
+use record::{After, Loop};
+use refusal::Refusal;
 use settings::Settings;
 
 #[derive(Clone, Copy)]
@@ -14,16 +16,10 @@ pub struct Numbered {
     pub memory: Memory,
 }
 
-#[derive(Clone, Copy)]
-pub struct Made {
-    pub code: u8,
-    pub state: Numbered,
-}
-
 // "An answer is a code, the output in force and the last number in force", and the record stands beside it.
 #[derive(Clone, Copy)]
 pub struct Delivered {
-    pub code: u8,
+    pub outcome: Result<(), Refusal>,
     pub output: i32,
     pub number: u32,
     pub state: Numbered,
@@ -47,13 +43,12 @@ impl Numbered {
     }
 
     // "Making a loop from settings tests 11, then 16."
-    pub fn make(settings: Settings) -> Made
-        ensures { result ≡ made_of settings }
+    pub fn make(settings: Settings) -> After<Numbered>
+        ensures { made_told result ≡ made_of settings }
     {
-        let made = Loop::make(settings);
-        let state = made.state;
-        Made {
-            code: made.code,
+        let After { outcome, state } = Loop::make(settings);
+        After {
+            outcome,
             state: Numbered::new(state),
         }
     }
@@ -62,23 +57,22 @@ impl Numbered {
     pub(crate) fn remembers(self) -> bool
         ensures { result ≡ memory_ok self }
     {
-        let m = self.memory;
-        m.fits(self.state.settings.lo, self.state.settings.hi)
+        self.memory
+            .fits(self.state.settings.lo, self.state.settings.hi)
     }
 
     // Whether the record keeps the state rules.
     pub fn is_valid(self) -> bool
         ensures { result ≡ valid_of self }
     {
-        let l = self.state;
-        self.remembers() & l.is_valid()
+        self.remembers() & self.state.is_valid()
     }
 
-    fn answer(self, code: u8) -> Delivered
-        ensures { result ≡ answer_of code self }
+    fn answer(self, outcome: Result<(), Refusal>) -> Delivered
+        ensures { delivered_told result ≡ answer_of (code_in outcome) self }
     {
         Delivered {
-            code,
+            outcome,
             output: self.state.u,
             number: self.memory.number,
             state: self,
@@ -86,13 +80,23 @@ impl Numbered {
     }
 
     fn broken(self) -> Delivered
-        ensures { result ≡ broken_of self }
+        ensures { delivered_told result ≡ broken_of self }
     {
         Delivered {
-            code: 10,
+            outcome: Err(Refusal::BrokenRecord),
             output: 0,
             number: 0,
             state: self,
+        }
+    }
+
+    // What the law refuses.
+    fn refuse(self, refusal: Refusal) -> Delivered
+        ensures { delivered_told result ≡ refused_as (code_for refusal) self }
+    {
+        match refusal {
+            Refusal::BrokenRecord => self.broken(),
+            _ => self.answer(Err(refusal)),
         }
     }
 
@@ -100,34 +104,31 @@ impl Numbered {
     fn keep(self, state: Loop, number: u32, c: Command) -> Numbered
         ensures { result ≡ kept_of self state number c }
     {
-        let m = self.memory;
         Numbered {
             state,
-            memory: m.remember(number, c, state.u),
+            memory: self.memory.remember(number, c, state.u),
         }
     }
 
-    // What the number alone decides comes after 10.
-    fn settle(self, code: u8) -> Delivered
-        ensures { result ≡ settled_of self (answer_of code self) }
+    // What the number alone refuses comes after 10.
+    fn settle(self, refusal: Refusal) -> Delivered
+        ensures { delivered_told result ≡ settled_of self (answer_of (code_for refusal) self) }
     {
-        let l = self.state;
-        if l.is_valid() {
-            return self.answer(code);
+        if self.state.is_valid() {
+            return self.answer(Err(refusal));
         }
         self.broken()
     }
 
     // A repeat "gets its first answer again: code 0, that output and its own number".
     fn again(self, number: u32, e: Entry) -> Delivered
-        ensures { result ≡ settled_of self (repeat_of number e self) }
+        ensures { delivered_told result ≡ settled_of self (repeat_of number e self) }
     {
-        let l = self.state;
-        if !l.is_valid() {
+        if !self.state.is_valid() {
             return self.broken();
         }
         Delivered {
-            code: 0,
+            outcome: Ok(()),
             output: e.output,
             number,
             state: self,
@@ -136,34 +137,26 @@ impl Numbered {
 
     // "Number = last + 1: the law is tried". It tests the loop's own state rules.
     fn attempt(self, number: u32, c: Command) -> Delivered
-        ensures { result ≡ tried_of self number c }
+        ensures { delivered_told result ≡ tried_of self number c }
     {
-        let l = self.state;
-        let tried = obey(l, c);
-        let code = tried.code;
-        if code == 10 {
-            return self.broken();
+        let tried = obey(self.state, c);
+        match tried.outcome {
+            Ok(()) => self.keep(tried.state, number, c).answer(Ok(())),
+            Err(refusal) => self.refuse(refusal),
         }
-        if code == 0 {
-            let next = tried.state;
-            return self.keep(next, number, c).answer(0);
-        }
-        self.answer(code)
     }
 
     // One delivery: "10; then 1, 2, 3; then content". Every path tests each state rule once.
     pub fn deliver(self, number: u32, c: Command) -> Delivered
-        ensures { result ≡ delivered_of self number c }
+        ensures { delivered_told result ≡ delivered_of self number c }
     {
-        let m = self.memory;
         if !self.remembers() {
             return self.broken();
         }
-        let found = m.find(number, c);
-        match found {
-            Found::Old => self.settle(1),
-            Found::Reused => self.settle(2),
-            Found::Ahead => self.settle(3),
+        match self.memory.find(number, c) {
+            Found::Old => self.settle(Refusal::Old),
+            Found::Reused => self.settle(Refusal::Reused),
+            Found::Ahead => self.settle(Refusal::Ahead),
             Found::Repeated(e) => self.again(number, e),
             Found::Next => self.attempt(number, c),
         }

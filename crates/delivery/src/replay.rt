@@ -1,88 +1,91 @@
 // Replay: a lent list of samples is delivered in one call, and the front of a lent list takes the outputs.
 ghost use Rattle.std.specs.Prelude.{◌≡◌, true, ◌+◌, ◌≤◌, length};
 ghost use Rattle.delivery.specs.Numbered.{memory_ok};
-ghost use Rattle.delivery.specs.Replay.{numbers_left, refused_of, stopped_of, replayed_of, written_of};
+ghost use Rattle.refusal.specs.Refusal.{code_in};
+ghost use Rattle.delivery.specs.Replay.{numbers_left, numbers_refusal, admission, left_told, replayed_told, replayed_of, written_of};
 
 use crate::numbered::Numbered;
 use pid::play::play;
+use refusal::Refusal;
+use temperature::Bad;
 
+// What became of a replay, how many samples were delivered or which is the earliest bad one, and the record beside it.
 #[derive(Clone, Copy)]
 pub struct Replayed {
-    pub code: u8,
-    pub place: usize,
-    pub count: usize,
+    pub outcome: Result<usize, Bad>,
     pub state: Numbered,
 }
 
 impl Numbered {
-    fn refused(self, code: u8, place: usize) -> Replayed
-        ensures { result ≡ refused_of self code place }
+    // "First number 0 or at most last: 1; above last + 1: 3; 12; 13".
+    fn check_numbers(self, first: u32, count: usize, room: usize) -> Result<(), Refusal>
+        ensures { code_in result ≡ numbers_refusal self first count room }
     {
-        Replayed {
-            code,
-            place,
-            count: 0,
-            state: self,
+        let last = self.memory.number;
+        if first <= last {
+            return Err(Refusal::Old);
+        }
+        if 1 < first - last {
+            return Err(Refusal::Ahead);
+        }
+        if room < count {
+            return Err(Refusal::ShortOutputs);
+        }
+        if ((u32::MAX - last) as usize) < count {
+            return Err(Refusal::ManySamples);
+        }
+        Ok(())
+    }
+
+    // "Order: 10; [..]". What is not refused here tests the loop's own state rules under the law.
+    fn admit(self, first: u32, count: usize, room: usize) -> Result<(), Refusal>
+        ensures { code_in result ≡ admission self first count room }
+    {
+        if !self.remembers() {
+            return Err(Refusal::BrokenRecord);
+        }
+        match self.check_numbers(first, count, room) {
+            Ok(()) => Ok(()),
+            Err(refusal) if self.state.is_valid() => Err(refusal),
+            Err(_) => Err(Refusal::BrokenRecord),
         }
     }
 
-    // A refusal that comes after 10, and has no place.
-    fn stopped(self, code: u8) -> Replayed
-        ensures { result ≡ stopped_of self code }
-    {
-        let l = self.state;
-        if l.is_valid() {
-            return self.refused(code, 0);
-        }
-        self.refused(10, 0)
-    }
-
-    // The first number is the next one, and every sample has its place and its number.
-    fn replayed(self, samples: &[i32], out: &mut [i32]) -> Replayed
+    // The record once these samples are delivered from the next number on: every one has its place and its number.
+    fn replayed(self, samples: &[i32], out: &mut [i32]) -> Result<Numbered, Bad>
         requires { (memory_ok self ≡ true) × (length samples.now ≤ length out.old) × (length samples.now ≤ numbers_left self) }
-        ensures value { result ≡ replayed_of self (self.memory.number + 1) samples.now (length out.old) }
+        ensures value { left_told self (length samples.now) result ≡ replayed_of self (self.memory.number + 1) samples.now (length out.old) }
         ensures out_after { out.new ≡ written_of self (self.memory.number + 1) samples.now out.old }
     {
-        let l = self.state;
-        let played = play(l, samples, out);
-        let code = played.code;
-        if code != 0 {
-            return self.refused(code, played.place);
-        }
-        let n = samples.len();
-        let m = self.memory;
-        let state = played.state;
-        let memory = m.fill(m.number + n as u32, samples, out);
-        Replayed {
-            code: 0,
-            place: 0,
-            count: n,
-            state: Numbered { state, memory },
-        }
+        let played = play(self.state, samples, out);
+        played.outcome?;
+        let number = self.memory.number + samples.len() as u32;
+        Ok(Numbered {
+            state: played.state,
+            memory: self.memory.fill(number, samples, out),
+        })
     }
 
     // "Order: 10; first number 0 or at most last: 1; above last + 1: 3; 12; 13; then 4", or 19.
     pub fn replay(self, first: u32, samples: &[i32], out: &mut [i32]) -> Replayed
-        ensures value { result ≡ replayed_of self first samples.now (length out.old) }
+        ensures value { replayed_told result ≡ replayed_of self first samples.now (length out.old) }
         ensures out_after { out.new ≡ written_of self first samples.now out.old }
     {
-        let last = self.memory.number;
-        if !self.remembers() {
-            return self.refused(10, 0);
+        if let Err(refusal) = self.admit(first, samples.len(), out.len()) {
+            return Replayed {
+                outcome: Err(Bad { refusal, place: 0 }),
+                state: self,
+            };
         }
-        if first <= last {
-            return self.stopped(1);
+        match self.replayed(samples, out) {
+            Ok(state) => Replayed {
+                outcome: Ok(samples.len()),
+                state,
+            },
+            Err(bad) => Replayed {
+                outcome: Err(bad),
+                state: self,
+            },
         }
-        if 1 < first - last {
-            return self.stopped(3);
-        }
-        if out.len() < samples.len() {
-            return self.stopped(12);
-        }
-        let left = u32::MAX - last;
-        if (left as usize) < samples.len() {
-            return self.stopped(13);
-        }
-        self.replayed(samples, out)
     }
 }

@@ -27,8 +27,7 @@ use Rattle.memory.specs.declared.Memory.{Memory}
 use Rattle.memory.specs.Memory.{window, entry_of, no_entry, remembered, holds_ok, entries_ok, memory_ok as memory_rules, is_last, found_in, found_by, entry_at, found_of}
 use Rattle.memory.specs.Walk.{Delivery}
 use Rattle.delivery.specs.declared.numbered.Numbered.{Numbered}
-use Rattle.delivery.specs.declared.numbered.Delivered.{Delivered}
-use Rattle.delivery.specs.Numbered.{memory_ok, valid_of, served_of, delivered_of}
+use Rattle.delivery.specs.Numbered.{Delivered, memory_ok, valid_of, served_of, delivered_of}
 use Rattle.delivery.specs.Demand3.{answer_in, answered, handed_back}
 use Rattle.mirror.specs.Mirror.{Mirror, flip_command, flip_last, flip_entry, flip_memory, flip_numbered, flip_delivery, flip_answer, flip_delivered}
 use Rattle.mirror.proofs.Twice.{command_twice}

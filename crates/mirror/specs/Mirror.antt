@@ -8,14 +8,14 @@ use Rattle.command.specs.declared.Command.TheVariants.{Sample, Hold, Put, Automa
 use Rattle.command.specs.Command.{value_of, second_of}
 use Rattle.window.specs.declared.Window.{Window}
 use Rattle.record.specs.declared.Loop.{Loop}
-use Rattle.pid.specs.declared.law.Obeyed.{Obeyed}
-use Rattle.pid.specs.declared.play.Played.{Played}
+use Rattle.pid.specs.Law.{Obeyed}
+use Rattle.pid.specs.Play.{Played}
 use Rattle.memory.specs.declared.Entry.{Entry}
 use Rattle.memory.specs.declared.Memory.{Memory}
 use Rattle.memory.specs.Walk.{Delivery, Answer}
 use Rattle.delivery.specs.declared.numbered.Numbered.{Numbered}
-use Rattle.delivery.specs.declared.numbered.Delivered.{Delivered}
-use Rattle.delivery.specs.declared.replay.Replayed.{Replayed}
+use Rattle.delivery.specs.Numbered.{Delivered}
+use Rattle.delivery.specs.Replay.{Replayed}
 
 pub data Mirror : Type 0 where
   -- "Flip only the action, the limits (to -hi..-lo), out and puts: every output and the integral change sign, w and y do not."

@@ -1,16 +1,21 @@
 -- A replay from a loop made of settings' values: automatic, with a gain set and a target, after a sample and perhaps a hold. And a
 -- delivery after a replay, from a loop that remembers what it is told to.
-use Rattle.std.specs.Prelude.{ℕ, cond, List, eqb, ℤ, pos, length}
+use Rattle.std.specs.Prelude.{ℕ, cond, List, Result, Ok, Err, eqb, ℤ, pos, length}
 use Rattle.whole.specs.Numbers.{eq_z}
+use Rattle.refusal.specs.declared.Refusal.{Refusal}
+use Rattle.refusal.specs.declared.Refusal.TheVariants.{SettingOutside}
 use Rattle.settings.specs.declared.Settings.{Settings}
 use Rattle.settings.specs.Table.{lines}
 use Rattle.settings.specs.Settings.{settings_of}
 use Rattle.command.specs.declared.Command.TheVariants.{Sample, Hold, Automatic, Set, Target}
 use Rattle.memory.specs.Memory.{no_memory, filled_of}
 use Rattle.delivery.specs.declared.numbered.Numbered.{Numbered}
-use Rattle.delivery.specs.declared.numbered.Delivered.{Delivered}
-use Rattle.delivery.specs.Numbered.{made_of, delivered_of}
+use Rattle.delivery.specs.Numbered.{Delivered, made_of, delivered_of}
 use Rattle.delivery.specs.Replay.{replayed_of, written_of}
+
+-- the settings of a list that has as many values as settings have; 11 for any other
+unfoldable pub settings_in : List ℤ → Result Settings Refusal
+settings_in values = cond (eqb (length values) lines) (Ok (settings_of values)) (Err SettingOutside)
 
 -- automatic, the set, and the target at the settings' rate, delivered as numbers 1 to 3
 abbrev pub automatic_of : Settings → Numbered

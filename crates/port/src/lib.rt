@@ -1,65 +1,77 @@
 // The replay, and a delivery after it, for programs in other languages: what `port_c` exports.
 #![tactic(auto)]
 
-ghost use Rattle.std.specs.Prelude.{◌≡◌, length};
-ghost use Rattle.settings.specs.Table.{lines};
+ghost use Rattle.std.specs.Prelude.{◌≡◌, pos, length};
+ghost use Rattle.refusal.specs.Refusal.{code_in};
+ghost use Rattle.delivery.specs.Numbered.{delivered_told};
 ghost use Rattle.delivery.specs.Replay.{written_of};
-ghost use Rattle.port.specs.Port.{automatic_of, aimed_of, ready_of, code_of, place_of, out_of, remembering_of, late_of, late_code, late_output, late_number, late_out};
+ghost use Rattle.port.specs.Port.{settings_in, automatic_of, aimed_of, ready_of, code_of, place_of, out_of, remembering_of, late_of, late_code, late_output, late_number, late_out};
 
 use command::Command;
 use delivery::numbered::{Delivered, Numbered};
 use memory::Memory;
+use refusal::Refusal;
 use settings::Settings;
 use values::settings_of;
 
-// The numbers of a list that has as many as settings have values.
-fn values_of(list: &[i32]) -> [i32; Settings::LINES]
-    requires { length list.now ≡ lines }
-    ensures { result ≡ list.now }
+// What a replay starts from: settings, a gain set, a target, a sample before it, and whether a hold follows that, which is where
+// `held` is not 0.
+#[derive(Clone, Copy)]
+struct Start {
+    settings: Settings,
+    set: i32,
+    target: i32,
+    before: i32,
+    held: i32,
+}
+
+// The settings of a list that has as many values as settings have.
+fn settings_in(values: &[i32]) -> Result<Settings, Refusal>
+    ensures { result ≡ settings_in values.now }
 {
-    let mut values = [0i32; Settings::LINES];
-    let mut i: usize = 0;
-    while i < Settings::LINES {
-        values[i] = list[i];
-        i += 1;
+    match <[i32; Settings::LINES]>::try_from(values) {
+        Ok(values) => Ok(settings_of(values)),
+        Err(_) => Err(Refusal::SettingOutside),
     }
-    values
+}
+
+// The code of what became of a call, as C has it.
+fn code_for_c(outcome: Result<(), Refusal>) -> i32
+    ensures { result ≡ pos (code_in outcome) }
+{
+    i32::from(refusal::code(outcome))
 }
 
 // A loop made of these settings, automatic.
 fn automatic(settings: Settings) -> Numbered
     ensures { result ≡ automatic_of settings }
 {
-    let made = Numbered::make(settings);
-    let fresh = made.state;
-    let first = fresh.deliver(1, Command::Automatic);
-    first.state
+    let fresh = Numbered::make(settings).state;
+    fresh.deliver(1, Command::Automatic).state
 }
 
-// The same with a gain set, and a target at the settings' rate.
-fn aimed(settings: Settings, set: i32, target: i32) -> Numbered
-    ensures { result ≡ aimed_of settings set target }
-{
-    let state = automatic(settings);
-    let second = state.deliver(2, Command::Set(set));
-    let chosen = second.state;
-    let third = chosen.deliver(3, Command::Target(target, settings.rate));
-    third.state
-}
-
-// The loop that is replayed: after a sample, and after a hold where `held` is not 0. Where the sample is refused, nothing is
-// kept of either.
-fn ready(settings: Settings, set: i32, target: i32, before: i32, held: i32) -> Numbered
-    ensures { result ≡ ready_of settings set target before held }
-{
-    let state = aimed(settings, set, target);
-    let fourth = state.deliver(4, Command::Sample(before));
-    let sampled = fourth.state;
-    if whole::equal(held, 0) {
-        return sampled;
+impl Start {
+    // An automatic loop with the gain set, and the target at the settings' rate.
+    fn aimed(self) -> Numbered
+        ensures { result ≡ aimed_of self.settings self.set self.target }
+    {
+        let automatic = automatic(self.settings);
+        let chosen = automatic.deliver(2, Command::Set(self.set)).state;
+        let target = Command::Target(self.target, self.settings.rate);
+        chosen.deliver(3, target).state
     }
-    let fifth = sampled.deliver(5, Command::Hold);
-    fifth.state
+
+    // The loop that is replayed: after a sample, and perhaps after a hold. Where the sample is refused, nothing is kept of either.
+    fn ready(self) -> Numbered
+        ensures { result ≡ ready_of self.settings self.set self.target self.before self.held }
+    {
+        let aimed = self.aimed();
+        let sampled = aimed.deliver(4, Command::Sample(self.before)).state;
+        if self.held == 0 {
+            return sampled;
+        }
+        sampled.deliver(5, Command::Hold).state
+    }
 }
 
 // The code of a replay from that loop; the place where a sample is refused is written through `place`.
@@ -78,14 +90,31 @@ pub fn port_replay(
     ensures place_after { place.new ≡ place_of values.now set target before held first samples.now (length out.old) }
     ensures out_after { out.new ≡ out_of values.now set target before held first samples.now out.old }
 {
-    if values.len() != Settings::LINES {
-        *place = 0;
-        return 11;
+    match settings_in(values) {
+        Ok(settings) => {
+            let start = Start {
+                settings,
+                set,
+                target,
+                before,
+                held,
+            };
+            match start.ready().replay(first, samples, out).outcome {
+                Ok(_) => {
+                    *place = 0;
+                    0
+                }
+                Err(bad) => {
+                    *place = bad.place;
+                    code_for_c(Err(bad.refusal))
+                }
+            }
+        }
+        Err(refusal) => {
+            *place = 0;
+            code_for_c(Err(refusal))
+        }
     }
-    let start = ready(settings_of(values_of(values)), set, target, before, held);
-    let done = start.replay(first, samples, out);
-    *place = done.place;
-    done.code as i32
 }
 
 // A loop that remembers what it is told to: a last number, and samples, oldest first, each with the output at its place. So a caller
@@ -93,12 +122,9 @@ pub fn port_replay(
 fn remembering(settings: Settings, last: u32, earlier: &[i32], answered: &[i32]) -> Numbered
     ensures { result ≡ remembering_of settings last earlier.now answered.now }
 {
-    let start = automatic(settings);
-    let state = start.state;
-    let none = Memory::blank();
     Numbered {
-        state,
-        memory: none.fill(last, earlier, answered),
+        state: automatic(settings).state,
+        memory: Memory::blank().fill(last, earlier, answered),
     }
 }
 
@@ -111,12 +137,11 @@ fn late(
     number: u32,
     value: i32,
 ) -> Delivered
-    ensures value { result ≡ late_of start first samples.now (length out.old) number value }
+    ensures value { delivered_told result ≡ late_of start first samples.now (length out.old) number value }
     ensures out_after { out.new ≡ written_of start first samples.now out.old }
 {
-    let replayed = start.replay(first, samples, out);
-    let state = replayed.state;
-    state.deliver(number, Command::Sample(value))
+    let replayed = start.replay(first, samples, out).state;
+    replayed.deliver(number, Command::Sample(value))
 }
 
 // The code of that sample; its answer's output and number are written through `output` and `told`.
@@ -138,15 +163,18 @@ pub fn port_late(
     ensures told_after { told.new ≡ late_number values.now last earlier.now answered.now first samples.now (length out.old) number value }
     ensures out_after { out.new ≡ late_out values.now last earlier.now answered.now first samples.now out.old }
 {
-    if values.len() != Settings::LINES {
-        *output = 0;
-        *told = 0;
-        return 11;
+    match settings_in(values) {
+        Ok(settings) => {
+            let start = remembering(settings, last, earlier, answered);
+            let done = late(start, first, samples, out, number, value);
+            *output = done.output;
+            *told = done.number;
+            code_for_c(done.outcome)
+        }
+        Err(refusal) => {
+            *output = 0;
+            *told = 0;
+            code_for_c(Err(refusal))
+        }
     }
-    let start = remembering(settings_of(values_of(values)), last, earlier, answered);
-    let done = late(start, first, samples, out, number, value);
-    let u = done.output;
-    *output = u;
-    *told = done.number;
-    done.code as i32
 }

@@ -22,8 +22,7 @@ use Rattle.window.specs.Window.{fresh_window, window_ok}
 use Rattle.memory.specs.Memory.{window, memory_ok as memory_rules}
 use Rattle.memory.proofs.Rules.{no_memory_ok}
 use Rattle.delivery.specs.declared.numbered.Numbered.{Numbered}
-use Rattle.delivery.specs.declared.numbered.Delivered.{Delivered}
-use Rattle.delivery.specs.Numbered.{new_of, made_of, blank_of, memory_ok, valid_of, answer_of, kept_of, delivered_of}
+use Rattle.delivery.specs.Numbered.{Delivered, new_of, made_of, blank_of, memory_ok, valid_of, answer_of, kept_of, delivered_of}
 use Rattle.delivery.specs.Bench.{at_limit}
 use Rattle.delivery.proofs.Served.{by_delivery_lem, kept_one, kept_twice, delivered_valid}
 

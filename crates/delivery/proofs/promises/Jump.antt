@@ -35,10 +35,9 @@ use Rattle.pid.proofs.promises.Jump.{farthest_is_plain, taken_is_near, neighbour
 use Rattle.memory.specs.Memory.{window, memory_ok as memory_rules}
 use Rattle.memory.specs.Walk.{Delivery, kept}
 use Rattle.delivery.specs.declared.numbered.Numbered.{Numbered}
-use Rattle.delivery.specs.declared.replay.Replayed.{Replayed}
 use Rattle.delivery.specs.Numbered.{new_of, memory_ok, valid_of}
 use Rattle.delivery.specs.Demand3.{handed_back, recalled, standing, kept_on}
-use Rattle.delivery.specs.Replay.{replay_refusal, refused_of, replayed_of}
+use Rattle.delivery.specs.Replay.{Replayed, replay_refusal, refused_of, replayed_of}
 use Rattle.delivery.proofs.Ended.{end_from, all_valid, kept_accepted}
 
 -- ---- "In automatic, a sample further than jump from the last kept raw temperature is refused"

@@ -29,11 +29,9 @@ use Rattle.pid.proofs.Plays.{bad_after}
 use Rattle.memory.specs.Memory.{window, memory_ok as memory_rules, last_number, filled_of}
 use Rattle.memory.specs.Walk.{Answer}
 use Rattle.delivery.specs.declared.numbered.Numbered.{Numbered}
-use Rattle.delivery.specs.declared.numbered.Delivered.{Delivered}
-use Rattle.delivery.specs.declared.replay.Replayed.{Replayed}
-use Rattle.delivery.specs.Numbered.{new_of, memory_ok, valid_of, delivered_of}
+use Rattle.delivery.specs.Numbered.{Delivered, new_of, memory_ok, valid_of, delivered_of}
 use Rattle.delivery.specs.Demand3.{handed_back, answered, standing, kept_on}
-use Rattle.delivery.specs.Replay.{numbered, record_after, numbers_left, replay_refusal, replayed_of, written_of}
+use Rattle.delivery.specs.Replay.{Replayed, numbered, record_after, numbers_left, replay_refusal, replayed_of, written_of}
 use Rattle.delivery.proofs.Ended.{all_valid}
 use Rattle.delivery.proofs.Served.{refused_one}
 use Rattle.delivery.proofs.Replays.{record_is, all_kept}

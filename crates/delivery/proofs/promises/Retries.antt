@@ -33,11 +33,9 @@ use Rattle.memory.proofs.Order.{InWindow, last_is, is_last_lem}
 use Rattle.memory.proofs.Walked.{ends, kept_most}
 use Rattle.memory.proofs.Late.{late}
 use Rattle.delivery.specs.declared.numbered.Numbered.{Numbered}
-use Rattle.delivery.specs.declared.numbered.Delivered.{Delivered}
-use Rattle.delivery.specs.declared.replay.Replayed.{Replayed}
-use Rattle.delivery.specs.Numbered.{new_of, made_of, valid_of, answer_of, served_of, delivered_of}
+use Rattle.delivery.specs.Numbered.{Delivered, new_of, made_of, valid_of, answer_of, served_of, delivered_of}
 use Rattle.delivery.specs.Demand3.{plain, answered, handed_back, recalled, standing, kept_on}
-use Rattle.delivery.specs.Replay.{numbered, record_after, replay_refusal, replayed_of}
+use Rattle.delivery.specs.Replay.{Replayed, numbered, record_after, replay_refusal, replayed_of}
 use Rattle.delivery.specs.Bench.{Row, log}
 use Rattle.delivery.proofs.Served.{by_delivery_lem, kept_one, zero_one, old_one, repeat_one, reused_one, delivered_valid}
 use Rattle.delivery.proofs.Stands.{stands_at, numbered as engine}

@@ -16,8 +16,7 @@ use Rattle.command.specs.Sequence.{after, each}
 use Rattle.command.proofs.Sequences.{after_through, each_through}
 use Rattle.record.specs.declared.Loop.{Loop}
 use Rattle.record.specs.Record.{made_of as loop_made_of}
-use Rattle.pid.specs.declared.law.Obeyed.{Obeyed}
-use Rattle.pid.specs.Law.{law_of}
+use Rattle.pid.specs.Law.{Obeyed, law_of}
 use Rattle.pid.specs.Play.{played_of, wrote_of}
 use Rattle.memory.specs.Memory.{window}
 use Rattle.memory.specs.Walk.{Delivery}

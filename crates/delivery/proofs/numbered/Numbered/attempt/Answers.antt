@@ -1,24 +1,21 @@
 use mathlib.Core.Path.{ap, ◌∙◌}
-use borrow.Author.Tests.{eq-eqb, ne_eqb}
+use borrow.Author.Tests.{ne_eqb}
+use Rattle.refusal.proofs.promises.Codes.{refused_not_0}
+use Rattle.refusal.specs.Refusal.{code_for}
+use Rattle.pid.specs.Law.{obeyed_told}
 use Rattle.delivery.specs.Numbered.{answer_of}
 use Rattle.delivery.proofs.Served.{tried}
 use Rattle.delivery.proofs.numbered.Numbered.attempt.Goals as goal
 
-pub returns-then-code-eq10 : goal.returns-then-code-eq10
-returns-then-code-eq10 c =
-    let o = c.obey-tried in
-    c.broken.ensures
-    ∙ (rw (eq-eqb _ 10 c.if-code-eq10.true) at (tried c.args.self c.args.number c.args.c o.result o.ensures))
-
-pub returns-then-code-eq0 : goal.returns-then-code-eq0
-returns-then-code-eq0 c =
+pub returns-in-Ok : goal.returns-in-Ok
+returns-in-Ok c =
     let o = c.obey-tried in
     c.answer.ensures
     ∙ ap (answer_of 0) c.keep.ensures
-    ∙ (rw (ne_eqb _ 10 c.if-code-eq10.false, eq-eqb _ 0 c.if-code-eq0.true) at (tried c.args.self c.args.number c.args.c o.result o.ensures))
+    ∙ (rw c.in-Ok.is at (tried c.args.self c.args.number c.args.c (obeyed_told o.result) o.ensures))
 
-pub returns : goal.returns
-returns c =
+pub returns-in-Err : goal.returns-in-Err
+returns-in-Err c =
     let o = c.obey-tried in
-    c.answer-2.ensures
-    ∙ (rw (ne_eqb _ 10 c.if-code-eq10.false, ne_eqb _ 0 c.if-code-eq0.false) at (tried c.args.self c.args.number c.args.c o.result o.ensures))
+    c.refuse.ensures
+    ∙ (rw (c.in-Err.is, ne_eqb (code_for c.in-Err.refusal) 0 (refused_not_0 c.in-Err.refusal)) at (tried c.args.self c.args.number c.args.c (obeyed_told o.result) o.ensures))
