@@ -2,6 +2,7 @@ pub mod Fit
 pub mod Shapes
 pub mod Rounding
 pub mod Arithmetic
+pub mod Std
 pub mod Samples
 pub mod Sound
 pub mod Kept

@@ -17,26 +17,7 @@ use window::Window;
 fn sign(action: i32) -> i64
     ensures { result ≡ sign_of action }
 {
-    if whole::equal(action, 0) { 1 } else { -1 }
-}
-
-fn wide(x: i32) -> i64
-    ensures { result ≡ x }
-{
-    x as i64
-}
-
-fn narrow(x: i64) -> i32
-    requires { Within reach x }
-    ensures { result ≡ x }
-{
-    x as i32
-}
-
-fn index(k: i32) -> usize
-    ensures { result ≡ plus k }
-{
-    if 0 <= k { k as usize } else { 0 }
+    if action == 0 { 1 } else { -1 }
 }
 
 fn gains(l: Loop) -> Gains
@@ -55,16 +36,16 @@ pub(crate) fn fixed(l: Loop) -> Fixed
     let g = gains(l);
     Fixed {
         sign: sign(l.settings.action),
-        lo: wide(l.settings.lo) * Loop::F,
-        hi: wide(l.settings.hi) * Loop::F,
-        target: wide(l.target),
-        rate: wide(l.rate),
+        lo: i64::from(l.settings.lo) * Loop::F,
+        hi: i64::from(l.settings.hi) * Loop::F,
+        target: i64::from(l.target),
+        rate: i64::from(l.rate),
         automatic: l.automatic,
-        kp: wide(g.kp),
-        ki: wide(g.ki),
-        kd: wide(g.kd),
-        alpha: wide(g.alpha),
-        kt: wide(g.kt),
+        kp: i64::from(g.kp),
+        ki: i64::from(g.ki),
+        kd: i64::from(g.kd),
+        alpha: i64::from(g.alpha),
+        kt: i64::from(g.kt),
     }
 }
 
@@ -72,8 +53,8 @@ pub(crate) fn moving(l: Loop) -> Moving
     ensures { result ≡ moving_of l }
 {
     Moving {
-        w: wide(l.w),
-        u: wide(l.u),
+        w: i64::from(l.w),
+        u: i64::from(l.u),
         integral: l.integral,
         y: l.y,
         primed: l.primed,
@@ -85,10 +66,8 @@ pub(crate) fn with_moving(mut l: Loop, window: Window, raw: i32, m: Moving) -> L
     requires { Within reach m.w × Within reach m.u }
     ensures { result ≡ with_moving l window raw m }
 {
-    let w = narrow(m.w);
-    let u = narrow(m.u);
-    l.w = w;
-    l.u = u;
+    l.w = m.w as i32;
+    l.u = m.u as i32;
     l.integral = m.integral;
     l.y = m.y;
     l.primed = m.primed;
@@ -102,7 +81,7 @@ pub(crate) fn with_moving(mut l: Loop, window: Window, raw: i32, m: Moving) -> L
 pub(crate) fn mean(l: Loop) -> usize
     ensures { result ≡ plus l.settings.mean }
 {
-    index(l.settings.mean)
+    whole::plus(l.settings.mean)
 }
 
 fn sample(l: Loop, pv: i32) -> Loop
@@ -127,7 +106,7 @@ fn step(l: Loop, c: Command) -> Loop
         Command::Put(x) => l.put(x),
         Command::Automatic => l.start(),
         Command::Target(t, r) => l.aim(t, r),
-        Command::Set(k) => l.choose(index(k)),
+        Command::Set(k) => l.choose(whole::plus(k)),
     }
 }
 

@@ -6,7 +6,7 @@ ghost use Rattle.settings.specs.Table.{reach};
 ghost use Rattle.record.specs.Units.{fine_reach};
 ghost use Rattle.pid.specs.Units.{product, excess_most, rounded};
 ghost use Rattle.pid.specs.Bounds.{FixedOk, MovingOk, SensedOk, RampOk, FilterOk, SlopeOk, ClampOk, BackOk};
-ghost use Rattle.pid.specs.Sample.{lesser, greater, limited, ramped, filtered, derivative, sensed_of, share_of, v_of, room_of, clamped, back_calculated, integrated, ordinary_of, acted_of};
+ghost use Rattle.pid.specs.Sample.{ramped, filtered, derivative, sensed_of, share_of, v_of, room_of, clamped, back_calculated, integrated, ordinary_of, acted_of};
 
 use record::Loop;
 
@@ -56,38 +56,14 @@ fn round(x: i64) -> i64
     (x + 32_768 + (x >> 63)) >> 16
 }
 
-fn least(a: i64, b: i64) -> i64
-    ensures { result ≡ lesser a b }
-{
-    if a < b { a } else { b }
-}
-
-fn most(a: i64, b: i64) -> i64
-    ensures { result ≡ greater a b }
-{
-    if a < b { b } else { a }
-}
-
-fn limit(x: i64, lo: i64, hi: i64) -> i64
-    ensures { result ≡ limited x lo hi }
-{
-    if x < lo {
-        return lo;
-    }
-    if hi < x {
-        return hi;
-    }
-    x
-}
-
 fn ramp(w: i64, target: i64, rate: i64) -> i64
     requires { RampOk w target rate }
     ensures { result ≡ ramped w target rate }
 {
     if w < target {
-        return w + least(rate, target - w);
+        return w + rate.min(target - w);
     }
-    w - least(rate, w - target)
+    w - rate.min(w - target)
 }
 
 // x is pv times F.
@@ -115,7 +91,7 @@ pub fn sense(f: Fixed, m: Moving, pv: i32) -> Sensed
     requires { FixedOk f × MovingOk m × Within reach pv }
     ensures { result ≡ sensed_of f m pv }
 {
-    let x = pv as i64;
+    let x = i64::from(pv);
     let w = ramp(m.w, f.target, f.rate);
     let y = filter(m.primed, m.y, x * Loop::F, f.alpha);
     let d = derive(m.primed, f.kd, f.sign, m.y, y);
@@ -135,10 +111,10 @@ fn clamp(integral: i64, g: i64, top: i64, bottom: i64) -> i64
     ensures { result ≡ clamped integral g top bottom }
 {
     if 0 < g {
-        return most(integral, least(integral + g, top));
+        return integral.max((integral + g).min(top));
     }
     if g < 0 {
-        return least(integral, most(integral + g, bottom));
+        return integral.min((integral + g).max(bottom));
     }
     integral
 }
@@ -148,7 +124,7 @@ fn back_calculate(integral: i64, g: i64, kt: i64, excess: i64) -> i64
     requires { BackOk integral g kt excess }
     ensures { result ≡ back_calculated integral g kt excess }
 {
-    limit(integral + g + round(kt * excess), -Loop::B, Loop::B)
+    (integral + g + round(kt * excess)).clamp(-Loop::B, Loop::B)
 }
 
 // g
@@ -192,7 +168,7 @@ fn ordinary(f: Fixed, m: Moving, z: Sensed) -> Moving
     ensures { result ≡ ordinary_of f m z }
 {
     let v = sum(f, m, z);
-    let at = limit(v, f.lo, f.hi);
+    let at = v.clamp(f.lo, f.hi);
     let u = round(at);
     let integral = integrate(f, m, z, at - v);
     Moving {

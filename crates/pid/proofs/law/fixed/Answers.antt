@@ -10,15 +10,15 @@ use Rattle.record.proofs.Fit.{loop_fit}
 use Rattle.record.proofs.Rules.{holds_of}
 use Rattle.pid.proofs.Shapes.{fixed_is}
 use Rattle.pid.proofs.law.fixed.Goals as goal
-use Rattle.pid.proofs.law.fixed.Goals.{After-wide, After-wide-2}
+use Rattle.pid.proofs.law.fixed.Goals.{After-from, After-from-2}
 
-abbrev lo_num : (c : After-wide) → Num c.wide.result
+abbrev lo_num : (c : After-from) → Num c.from.result
 lo_num c =
-    num_via c.wide.ensures (num_i32 (loop_fit c.args.l c.well_formed.0).settings.lo)
+    num_via c.from.ensures (num_i32 (loop_fit c.args.l c.well_formed.0).settings.lo)
 
-abbrev hi_num : (c : After-wide-2) → Num c.wide-2.result
+abbrev hi_num : (c : After-from-2) → Num c.from-2.result
 hi_num c =
-    num_via c.wide-2.ensures (num_i32 (loop_fit c.args.l c.well_formed.0).settings.hi)
+    num_via c.from-2.ensures (num_i32 (loop_fit c.args.l c.well_formed.0).settings.hi)
 
 pub gains-g-requires : goal.gains-g-requires
 gains-g-requires c = ltb-true c.args.l.set sets (holds_of c.args.l c.requires).set
@@ -28,18 +28,18 @@ returns c =
     let f = loop_fit c.args.l c.well_formed.0 in
     let g = gains_fit c.gains-g.result c.gains-g.type_inv in
     let sign = c.sign in
-    let l = lo_num (goal.at.returns c).After-wide in
-    let h = hi_num (goal.at.returns c).After-wide-2 in
+    let l = lo_num (goal.at.returns c).After-from in
+    let h = hi_num (goal.at.returns c).After-from-2 in
     let e = c.gains-g.ensures in
     rw (← e)
     (fixed_is
     (back w64 sign.result sign.type_inv ∙ sign.ensures ∙ rw (to_z-of_z f.settings.action))
     (gives (search nums depth 12) tt refl)
     (gives (search nums depth 12) tt refl)
-    (widened c.wide-3.result f.target c.wide-3.type_inv c.wide-3.ensures)
-    (widened c.wide-4.result f.rate c.wide-4.type_inv c.wide-4.ensures)
-    (widened c.wide-5.result g.kp c.wide-5.type_inv c.wide-5.ensures)
-    (widened c.wide-6.result g.ki c.wide-6.type_inv c.wide-6.ensures)
-    (widened c.wide-7.result g.kd c.wide-7.type_inv c.wide-7.ensures)
-    (widened c.wide-8.result g.alpha c.wide-8.type_inv c.wide-8.ensures)
-    (widened c.wide-9.result g.kt c.wide-9.type_inv c.wide-9.ensures))
+    (widened c.from-3.result f.target c.from-3.type_inv c.from-3.ensures)
+    (widened c.from-4.result f.rate c.from-4.type_inv c.from-4.ensures)
+    (widened c.from-5.result g.kp c.from-5.type_inv c.from-5.ensures)
+    (widened c.from-6.result g.ki c.from-6.type_inv c.from-6.ensures)
+    (widened c.from-7.result g.kd c.from-7.type_inv c.from-7.ensures)
+    (widened c.from-8.result g.alpha c.from-8.type_inv c.from-8.ensures)
+    (widened c.from-9.result g.kt c.from-9.type_inv c.from-9.ensures))

@@ -39,4 +39,4 @@ returns-in-Target c =
 
 pub returns-in-Set : goal.returns-in-Set
 unfolding step_of
-returns-in-Set c = let f : SFits w32 c.in-Set.k = search rules in rw (c.in-Set.is, c.choose.ensures, c.index.ensures, to_z-of_z f)
+returns-in-Set c = let f : SFits w32 c.in-Set.k = search rules in rw (c.in-Set.is, c.choose.ensures, c.plus.ensures, to_z-of_z f)

@@ -8,7 +8,12 @@ use Rattle.whole.proofs.Num.{Num, nums, num_in, num_via, fits, stays, gives, sam
 use Rattle.pid.specs.Sample.{ramped, filtered, derivative, new_w, new_y, sensed_of}
 use Rattle.pid.proofs.Arithmetic.{ramped_within, filtered_within}
 use Rattle.pid.proofs.sample.sense.Goals as goal
-use Rattle.pid.proofs.sample.sense.Goals.{After-filter-y, After-ramp-w}
+use Rattle.pid.proofs.sample.sense.Goals.{After-filter-y, After-from-x, After-ramp-w}
+
+abbrev x_num : (c : After-from-x) → Num c.from-x.result
+x_num c =
+    let p = c.requires.2 in
+    num_via c.from-x.ensures (search nums depth 12)
 
 abbrev w_is : (c : After-ramp-w) → c.ramp-w.result ≡ new_w c.args.f c.args.m
 w_is c =
@@ -27,6 +32,7 @@ y_is c =
     let f = c.requires.0 in
     let m = c.requires.1 in
     let p = c.requires.2 in
+    let x : Num c.from-x.result = num_via c.from-x.ensures (search nums depth 12) in
     c.filter-y.ensures ∙ same3 (filtered c.args.m.primed) (search nums depth 12) (search nums depth 12) (search nums depth 12) tt
 
 abbrev y_num : (c : After-filter-y) → Num c.filter-y.result
@@ -52,6 +58,7 @@ pub overflow_sub-e : goal.overflow_sub-e
 overflow_sub-e c =
     let p = c.requires.2 in
     let w = w_num (goal.at.overflow_sub-e c).After-ramp-w in
+    let x = x_num (goal.at.overflow_sub-e c).After-from-x in
     fits (search nums depth 12) tt
 
 pub overflow_mul-e : goal.overflow_mul-e
@@ -60,6 +67,7 @@ overflow_mul-e c =
     let m = c.requires.1 in
     let p = c.requires.2 in
     let w = w_num (goal.at.overflow_mul-e c).After-ramp-w in
+    let x = x_num (goal.at.overflow_mul-e c).After-from-x in
     fits (search nums depth 12) tt
 
 pub overflow_mul-result : goal.overflow_mul-result
@@ -68,6 +76,7 @@ overflow_mul-result c =
     let m = c.requires.1 in
     let p = c.requires.2 in
     let w = w_num (goal.at.overflow_mul-result c).After-ramp-w in
+    let x = x_num (goal.at.overflow_mul-result c).After-from-x in
     fits (search nums depth 12) tt
 
 pub returns : goal.returns
@@ -78,6 +87,7 @@ returns c =
     let kd = c.requires.0.kd in
     let m = c.requires.1.y in
     let p = c.requires.2 in
+    let x = x_num (goal.at.returns c).After-from-x in
     let w = w_num (goal.at.returns c).After-ramp-w in
     let y = y_num (goal.at.returns c).After-filter-y in
     let r = c.derive-d in
