@@ -2,12 +2,13 @@
 use Prim.Native.Nat.{ℕ, suc, ◌+◌, ◌<◌, ◌≤◌}
 use mathlib.Core.Path.{◌≡◌, refl, sym, ap, ◌∙◌}
 use mathlib.Core.Bool.{true}
-use mathlib.Core.List.{List, [], ◌∷◌}
+use mathlib.Core.List.{List, [], ◌∷◌, ◌++◌}
+use Rattle.std.proofs.Common.{append_assoc}
 use native.Mathlib.Numerals.{add-one}
 use native.Mathlib.Omega.{arith}
 use lib.IntN.{ℤ, pos}
-use lib.ListN.{length, drop, get_or, set, length-set}
-use lib.Seq.{sets, drop-cons, drop-length, drop-drop, drop-set-lt, get_or-drop}
+use lib.ListN.{length, take, drop, get_or, set, length-set}
+use lib.Seq.{length-take-le, sets, drop-cons, drop-length, drop-drop, drop-set-lt, get_or-drop}
 use Rattle.whole.specs.Numbers.{Within}
 use Rattle.pid.specs.declared.sample.Fixed.{Fixed}
 use Rattle.pid.specs.declared.sample.Moving.{Moving}
@@ -87,3 +88,9 @@ all_ok f m [] g o e = o
 all_ok f m (pv ∷ pvs) g o e =
     let h = ranged_first pv pvs e in
     all_ok f (moved_of f m pv) pvs g (acted_ok _ _ _ g o (sensed_ok _ _ _ g o (in_range 999999 pv h.0))) h.1
+
+-- a front that is filled whole, with what stands behind it
+pub front_joined : (us out : List ℤ) (n : ℕ) → n ≤ length out → length us ≡ n → front_filled us (take n out) ++ drop n out ≡ front_filled us out
+front_joined us out n h e =
+    let l = length-take-le n out h in
+    rw (e ∙ sym l, drop-length (take n out), append_assoc, l)

@@ -27,14 +27,9 @@ fn run(f: Fixed, start: Moving, n: usize, out: &mut [i32]) -> Moving
     ensures out_after { out.new ≡ front_filled (moved_outputs f start (take n out.old)) out.old }
 {
     let mut m = start;
-    let mut i: usize = 0;
-    while i < n {
-        let z = sense(f, m, out[i]);
-        let next = act(f, m, z);
-        let u = next.u as i32;
-        out[i] = u;
-        m = next;
-        i += 1;
+    for place in &mut out[..n] {
+        m = act(f, m, sense(f, m, *place));
+        *place = m.u as i32;
     }
     m
 }
