@@ -1,17 +1,17 @@
 -- A file, byte by byte and in pieces: what is left of the run, and every byte that is written.
-use Rattle.std.specs.Prelude.{ℕ, ◌+◌, ◌/◌, ◌≤◌, ◌≡◌, Bool, true, false, cond, not, ◌&&◌, ◌||◌, List, [], ◌∷◌, ◌++◌, eqb, ltb, leb, length, take, drop}
-use Rattle.std.proofs.lemmas.List.Edits.{sets}
+use Rattle.std.specs.Prelude.{ℕ, ◌+◌, ◌/◌, ◌≤◌, ◌≡◌, Bool, true, false, cond, not, ◌&&◌, ◌||◌, List, [], ◌∷◌, ◌++◌, eqb, ltb, leb, length, take, drop, Result, Ok, Err}
 use Rattle.word.specs.End.{feed}
 use Rattle.answer.specs.Judge.{judged_by}
+use Rattle.stream.specs.Part.{line_most}
 use Rattle.stream.specs.declared.run.Run.{Run}
-use Rattle.stream.specs.declared.feed.Ran.{Ran}
-use Rattle.stream.specs.Run.{Step, line_room, line_most, refusing, word_of, line_step, with_line, keeping}
+use Rattle.stream.specs.declared.run.Told.{Told}
+use Rattle.stream.specs.Run.{Step, line_room, refusing, line_step, with_part, keeping}
 
 -- ---- one byte
 
 -- a line feed ends the line under way
 unfoldable pub judging : Run → Step
-judging r = cond (ltb line_most r.len) (refusing r 14) (line_step r (judged_by r.journal r.state (word_of r)))
+judging r = cond (ltb line_most (length r.part)) (refusing r 14) (line_step r (judged_by r.journal r.state r.part))
 
 -- nothing, where the run has ended
 abbrev pub idle : Run → Step
@@ -42,22 +42,33 @@ plain (b ∷ w) = not (eqb b feed) && plain w
 
 -- the line under way with more bytes of it
 abbrev pub grown_of : Run → List ℕ → Run
-grown_of r w = with_line r (sets r.bytes r.len w) (r.len + length w)
+grown_of r w = with_part r (r.part ++ w)
 
 -- the next bytes of a line, and its line feed where that has come
 unfoldable pub line_of : Run → List ℕ → Bool → Step
 line_of r w fed =
     cond r.ended (idle r)
-    (cond (ltb line_most (r.len + length w)) (refusing r 14)
-    (cond fed (line_step r (judged_by r.journal r.state (word_of (grown_of r w)))) (idle (grown_of r w))))
+    (cond (ltb line_most (length r.part + length w)) (refusing r 14)
+    (cond fed (line_step r (judged_by r.journal r.state (r.part ++ w))) (idle (grown_of r w))))
 
 -- ---- the end of the file
 
 -- "a last one without its line feed, is 14"
 unfoldable pub finishing : Run → Step
-finishing r = cond (r.ended || eqb r.len 0) (idle r) (refusing r 14)
+finishing r = cond (r.ended || eqb (length r.part) 0) (idle r) (refusing r 14)
 
 -- ---- in a lent buffer, which has room or else nothing is done
+
+-- what comes back: whether the buffer had room, the run, and how many bytes from the buffer's first on are to be written
+pub record Ran : Type 0 where
+  pub done : Bool
+  pub run : Run
+  pub len : ℕ
+
+-- the program hands back the run that came in where there was no room
+abbrev pub ran_told : Result Told Run → Ran
+ran_told (Ok t) = record { done = true; run = t.run; len = t.len }
+ran_told (Err r) = record { done = false; run = r; len = 0 }
 
 abbrev pub ran_of : Bool → Run → Step → Ran
 ran_of room r s = cond room (record { done = true; run = s.run; len = length s.text }) (record { done = false; run = r; len = 0 })

@@ -1,3 +1,4 @@
+pub mod Part
 pub mod Run
 pub mod Feed
 pub mod Start

@@ -1,11 +1,12 @@
 -- What is carried from one piece of a file to the next, and what both programs do with a line.
-use Rattle.std.specs.Prelude.{ℕ, ◌+◌, ◌≤◌, ◌≡◌, true, cond, List, [], ◌++◌, eqb, ltb, length, take, set, replicate}
+use Rattle.std.specs.Prelude.{ℕ, ◌+◌, ◌≤◌, ◌≡◌, true, cond, List, [], ◌∷◌, ◌++◌, eqb, ltb, length}
 use Rattle.std.proofs.lemmas.List.Edits.{sets}
 use Rattle.delivery.specs.declared.numbered.Numbered.{Numbered}
 use Rattle.word.specs.Decimal.{shown}
 use Rattle.word.specs.Number.{highest}
 use Rattle.whole.specs.Words.{bytes}
 use Rattle.answer.specs.Verdict.{Verdict}
+use Rattle.stream.specs.Part.{line_most}
 use Rattle.stream.specs.declared.run.Run.{Run}
 use Rattle.stream.specs.declared.run.Told.{Told}
 
@@ -28,10 +29,6 @@ pub record Tells (room : ℕ) (s : Step) (before : List ℕ) (r : Told) (after :
   pub holds : after ≡ sets before 0 s.text
   pub few : r.len ≤ room
 
--- the room for a line of the file, which no well-formed line passes
-abbrev pub line_most : ℕ
-line_most = 80
-
 -- ---- a refusal
 
 abbrev pub refused_word : List ℕ
@@ -41,17 +38,12 @@ refused_word = bytes "refused "
 unfoldable pub refused_line : ℕ → ℕ → List ℕ
 refused_line code line = refused_word ++ (shown code ++ (bytes " " ++ (shown line ++ bytes "\n")))
 
--- the room for a line of which nothing has come yet
-abbrev pub no_bytes : List ℕ
-no_bytes = replicate line_most 0
-
 -- ended, with no line under way
 abbrev pub over_of : Run → Run
 over_of r = record {
   ended = true;
   journal = r.journal;
-  bytes = no_bytes;
-  len = 0;
+  part = [];
   line = r.line;
   state = r.state;
 }
@@ -62,10 +54,6 @@ refusing r code = record { run = over_of r; text = refused_line code r.line }
 
 -- ---- the line under way
 
--- its bytes
-abbrev pub word_of : Run → List ℕ
-word_of r = take r.len r.bytes
-
 -- the line after a line. One past 4,294,967,295 keeps that number
 abbrev pub following : ℕ → ℕ
 following line = cond (ltb line highest) (line + 1) line
@@ -75,8 +63,7 @@ abbrev pub next_of : Run → Numbered → Run
 next_of r l = record {
   ended = r.ended;
   journal = r.journal;
-  bytes = no_bytes;
-  len = 0;
+  part = [];
   line = following r.line;
   state = l;
 }
@@ -85,20 +72,19 @@ next_of r l = record {
 abbrev pub line_step : Run → Verdict → Step
 line_step r v = cond (eqb v.code 0) (record { run = next_of r v.state; text = v.text }) (refusing r v.code)
 
--- with these bytes of a line, and so many of them
-abbrev pub with_line : Run → List ℕ → ℕ → Run
-with_line r bytes len = record {
+-- with these bytes of a line
+abbrev pub with_part : Run → List ℕ → Run
+with_part r part = record {
   ended = r.ended;
   journal = r.journal;
-  bytes = bytes;
-  len = len;
+  part = part;
   line = r.line;
   state = r.state;
 }
 
 abbrev pub kept_of : Run → ℕ → Run
-kept_of r b = with_line r (set r.bytes r.len b) (r.len + 1)
+kept_of r b = with_part r (r.part ++ b ∷ [])
 
 -- a byte of the line under way; one past the room makes a line longer than any well-formed one: "malformed [..] is 14"
 unfoldable pub keeping : Run → ℕ → Step
-keeping r b = cond (ltb r.len line_most) (record { run = kept_of r b; text = [] }) (refusing r 14)
+keeping r b = cond (ltb (length r.part) line_most) (record { run = kept_of r b; text = [] }) (refusing r 14)

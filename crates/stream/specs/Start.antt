@@ -1,5 +1,5 @@
 -- How a run starts: from a settings text.
-use Rattle.std.specs.Prelude.{ℕ, Bool, false, cond, List, [], ◌++◌, eqb, leb, length}
+use Rattle.std.specs.Prelude.{ℕ, Bool, false, cond, List, [], ◌++◌, true, eqb, leb, length, Option, Some, None}
 use Rattle.settings.specs.declared.Settings.{Settings}
 use Rattle.command.specs.declared.Command.TheVariants.{Automatic}
 use Rattle.delivery.specs.declared.numbered.Numbered.{Numbered}
@@ -7,9 +7,9 @@ use Rattle.delivery.specs.Numbered.{blank_of, made_of, delivered_of}
 use Rattle.text.specs.declared.reader.Reading.{Reading}
 use Rattle.text.specs.Reader.{read_text}
 use Rattle.stream.specs.declared.run.Run.{Run}
-use Rattle.stream.specs.declared.feed.Ran.{Ran}
-use Rattle.stream.specs.Run.{Step, line_room, no_bytes, over_of, refusing}
-use Rattle.stream.specs.Feed.{after, written, finishing, ran_of, out_of}
+use Rattle.stream.specs.declared.run.Told.{Told}
+use Rattle.stream.specs.Run.{Step, line_room, over_of, refusing}
+use Rattle.stream.specs.Feed.{after, written, finishing, Ran, ran_of, out_of}
 
 -- "It makes the loop, delivers automatic as number 1"; a journal has every delivery in its file
 unfoldable pub first_loop : Bool → Settings → Numbered
@@ -20,8 +20,7 @@ abbrev pub start_of : Bool → ℕ → Numbered → Run
 start_of journal line l = record {
   ended = false;
   journal = journal;
-  bytes = no_bytes;
-  len = 0;
+  part = [];
   line = line;
   state = l;
 }
@@ -39,6 +38,11 @@ beginning journal settings = begun_by journal (read_text settings)
 -- a run that was never begun
 abbrev pub no_run : Bool → Run
 no_run journal = over_of (start_of journal 0 blank_of)
+
+-- what the program answers
+abbrev pub begun_told : Bool → Option Told → Ran
+begun_told journal (Some t) = record { done = true; run = t.run; len = t.len }
+begun_told journal None = record { done = false; run = no_run journal; len = 0 }
 
 abbrev pub begin_of : Bool → List ℕ → ℕ → Ran
 begin_of journal settings n = ran_of (leb line_room n) (no_run journal) (beginning journal settings)

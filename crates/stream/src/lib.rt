@@ -3,5 +3,6 @@
 #![tactic(auto)]
 
 pub mod feed;
+pub mod part;
 pub mod run;
 pub mod start;

@@ -3,32 +3,29 @@ ghost use Rattle.std.specs.Prelude.{◌≡◌, ◌+◌, ◌≤◌, length};
 ghost use Rattle.std.proofs.lemmas.List.Edits.{sets};
 ghost use Rattle.stream.specs.Run.{line_room, refused_line, refusing, following, over_of, next_of, Tells};
 
+use crate::part::Part;
 use delivery::numbered::Numbered;
 use word::buffer::{put, put_decimal};
 
-// A run that is under way: the first len of the bytes are those of the line under way, whose number in the file is line.
-// The lines are deliveries for the journal, else samples. Once ended, nothing more is written.
-#[derive(Clone, Copy)]
+// A run that is under way: what has come of the line under way, and its number in the file. The lines are deliveries for the
+// journal, else samples. Once ended, nothing more is written.
+#[derive(Drop)]
 pub struct Run {
     pub ended: bool,
     pub journal: bool,
-    pub bytes: [u8; Run::LINE],
-    pub len: usize,
+    pub part: Part,
     pub line: u32,
     pub state: Numbered,
 }
 
 impl Run {
-    // The room for a line of the file, which no well-formed line passes.
-    pub const LINE: usize = 80;
-
     // The room for what one byte of a file can make a program write.
     pub const ROOM: usize = 128;
 }
 
-// What a step leaves, and how many bytes it put, from the lent buffer's first on.
-#[derive(Clone, Copy)]
-pub(crate) struct Told {
+// What a step leaves, and how many bytes from the lent buffer's first on are to be written.
+#[derive(Drop)]
+pub struct Told {
     pub run: Run,
     pub len: usize,
 }
@@ -50,10 +47,7 @@ fn put_refused(out: &mut [u8], code: u8, line: u32) -> usize
 fn following(line: u32) -> u32
     ensures { result ≡ following line }
 {
-    if line < u32::MAX {
-        return line + 1;
-    }
-    line
+    line.saturating_add(1)
 }
 
 impl Run {
@@ -62,8 +56,7 @@ impl Run {
         ensures { result ≡ over_of self }
     {
         self.ended = true;
-        self.bytes = [0; Run::LINE];
-        self.len = 0;
+        self.part = Part::none();
         self
     }
 
@@ -71,10 +64,8 @@ impl Run {
     pub(crate) fn next(mut self, state: Numbered) -> Run
         ensures { result ≡ next_of self state }
     {
-        let line = following(self.line);
-        self.bytes = [0; Run::LINE];
-        self.len = 0;
-        self.line = line;
+        self.part = Part::none();
+        self.line = following(self.line);
         self.state = state;
         self
     }

@@ -3,9 +3,9 @@ ghost use Rattle.std.specs.Prelude.{◌≡◌, ◌+◌, ◌≤◌, length};
 ghost use Rattle.settings.specs.Table.{lines};
 ghost use Rattle.stream.specs.Run.{line_room, Tells};
 ghost use Rattle.stream.specs.Feed.{Counts};
-ghost use Rattle.stream.specs.Start.{start_of, first_loop, begun_by, begin_of, out_begun};
+ghost use Rattle.stream.specs.Start.{start_of, first_loop, begun_by, begin_of, out_begun, begun_told};
 
-use crate::feed::Ran;
+use crate::part::Part;
 use crate::run::{Run, Told};
 use command::Command;
 use delivery::numbered::Numbered;
@@ -32,8 +32,7 @@ impl Run {
         Run {
             ended: false,
             journal,
-            bytes: [0; Run::LINE],
-            len: 0,
+            part: Part::none(),
             line,
             state,
         }
@@ -56,24 +55,14 @@ fn begun(journal: bool, read: Reading, out: &mut [u8]) -> Told
     Run::start(journal, read.line as u32, Numbered::blank()).refuse(code, out)
 }
 
-// A run from the settings text, over a file of samples or of deliveries.
-pub fn begin(journal: bool, settings: &[u8], out: &mut [u8]) -> Ran
-    ensures value { result ≡ begin_of journal settings.now (length out.old) }
+// A run from the settings text, over a file of samples or of deliveries; nothing where the buffer has no room.
+pub fn begin(journal: bool, settings: &[u8], out: &mut [u8]) -> Option<Told>
+    ensures value { begun_told journal result ≡ begin_of journal settings.now (length out.old) }
     ensures out_after { out.new ≡ out_begun journal settings.now out.old }
-    ensures counts { Counts result.len out.new }
+    ensures counts { Counts (begun_told journal result).len out.new }
 {
     if out.len() < Run::ROOM {
-        return Ran {
-            done: false,
-            run: Run::start(journal, 0, Numbered::blank()).over(),
-            len: 0,
-        };
+        return None;
     }
-    let told = begun(journal, read_settings(settings), out);
-    let run = told.run;
-    Ran {
-        done: true,
-        run,
-        len: told.len,
-    }
+    Some(begun(journal, read_settings(settings), out))
 }

@@ -6,13 +6,13 @@ use Rattle.stream.proofs.Pieces.{ran_done}
 use Rattle.stream.proofs.Starts.{line_few}
 use Rattle.stream.proofs.start.begin.Goals as goal
 
-pub begun-told-requires : goal.begun-told-requires
-begun-told-requires c =
+pub begun-requires : goal.begun-requires
+begun-requires c =
     rw c.read_settings.ensures (line_few c.args.settings.now)
 
 pub returns : goal.returns
 returns c =
     let j = c.args.journal in
     let room = c.if-out-lt-ROOM.false in
-    let r = ran_done (no_run j) (beginning j c.args.settings.now) (le-leb _ _ room) room (step_by (sym (ap (begun_by j) c.read_settings.ensures)) c.begun-told.ensures) in
+    let r = ran_done (no_run j) (beginning j c.args.settings.now) (le-leb _ _ room) room (step_by (sym (ap (begun_by j) c.read_settings.ensures)) c.begun.ensures) in
     record { value = r.0; out_after = r.1.0; counts = r.1.1 }

@@ -11,5 +11,5 @@ pub returns : goal.returns
 returns c =
     let n = length c.args.piece.now in
     let h : n ≤ length c.args.out.now / line_room = c.if-out-piece.false in
-    let r = ran_done c.args.self (passing c.args.self c.args.piece.now) (le-leb _ _ h) (omega arith) c.pass-told.ensures in
+    let r = ran_done c.args.self (passing c.args.self c.args.piece.now) (le-leb _ _ h) (omega arith) c.pass.ensures in
     record { value = r.0; out_after = r.1.0; counts = r.1.1 }

@@ -1,31 +1,26 @@
-use Prim.Native.Nat.{ℕ, ◌≤◌}
-use mathlib.Core.Path.{◌≡◌, ap, ◌∙◌}
-use mathlib.Core.List.{List}
+use Prim.Native.Nat.{ℕ}
+use mathlib.Core.Path.{◌≡◌, refl, sym, ap, ◌∙◌}
+use mathlib.Core.List.{List, [], ◌∷◌, ◌++◌}
 use native.Mathlib.Omega.{arith}
+use borrow.Author.Tests.{eqb-true}
 use lib.ListN.{length}
-use lib.Seq.{length-sets}
-use Rattle.stream.specs.declared.run.Run.{Run}
-use Rattle.stream.specs.Run.{line_most, line_step}
+use Rattle.stream.specs.Run.{line_step}
 use Rattle.answer.specs.Judge.{judged_by}
 use Rattle.stream.proofs.Steps.{step_by}
-use Rattle.stream.proofs.Line.{grown_word}
-use borrow.Author.Rules.{rules}
 use Rattle.stream.proofs.run.Run.line.Goals as goal
-use Rattle.stream.proofs.run.Run.line.Goals.{After-grown-joined}
 
--- the bytes that are joined are all there
-joined : (c : After-grown-joined) → c.grown-joined.result.len ≤ length c.grown-joined.result.bytes
-joined c =
-    let r = c.args.self in
-    let w = c.args.part.now in
-    let n : length r.bytes ≡ line_most = search rules in
-    let e = c.grown-joined.ensures in
-    omega (arith, ap (λ (x : Run). x.len) e, ap (λ (x : Run). length x.bytes) e ∙ length-sets r.bytes r.len w)
+none : (part : List ℕ) → length part ≡ 0 → part ≡ []
+none [] e = refl
+none (b ∷ part) e = absurd (omega arith)
 
-pub returns-then-self-eq0 : goal.returns-then-self-eq0
-returns-then-self-eq0 c =
+pub returns-then-is_empty : goal.returns-then-is_empty
+returns-then-is_empty c =
     let r = c.args.self in
-    let w = c.args.part.now in
-    let n : length r.bytes ≡ line_most = search rules in
-    let h : length w ≤ line_most = omega arith in
-    step_by (ap (λ (x : List ℕ). line_step r (judged_by r.journal r.state x)) (grown_word r w c.if-self-eq0.true n h)) c.judge.ensures
+    let n = none r.part (eqb-true (length r.part) 0 (sym c.is_empty.ensures ∙ c.if-is_empty.true)) in
+    step_by (ap (λ (part : List ℕ). line_step r (judged_by r.journal r.state (part ++ c.args.more.now))) n) c.judge.ensures
+
+pub returns : goal.returns
+returns c =
+    let r = c.args.self in
+    let p = c.as_slice.ensures ∙ c.push.ensures ∙ ap (λ (part : List ℕ). part ++ c.args.more.now) c.replace-joined.ensures.value in
+    step_by (sym (ap (λ (w : List ℕ). line_step r (judged_by r.journal r.state w)) p)) c.judge-2.ensures
