@@ -3,8 +3,7 @@
 use Rattle.std.specs.Prelude.{ℕ, List, ◌++◌, ℤ, Option, Some, None}
 use Rattle.whole.specs.Words.{bytes}
 use Rattle.delivery.specs.declared.numbered.Numbered.{Numbered}
-use Rattle.delivery.specs.declared.numbered.Delivered.{Delivered}
-use Rattle.delivery.specs.Numbered.{delivered_of}
+use Rattle.delivery.specs.Numbered.{Delivered, delivered_of}
 use Rattle.delivery_line.specs.declared.Delivery.{Delivery}
 use Rattle.delivery_line.specs.Line.{delivery_of}
 use Rattle.word.specs.Decimal.{shown, decimal}

@@ -2,9 +2,8 @@
 use Rattle.std.specs.Prelude.{ℕ, ◌+◌, cond, List, ◌++◌, eqb, ℤ, Option, Some, None}
 use Rattle.command.specs.declared.Command.TheVariants.{Sample}
 use Rattle.delivery.specs.declared.numbered.Numbered.{Numbered}
-use Rattle.delivery.specs.declared.numbered.Delivered.{Delivered}
 use Rattle.memory.specs.Memory.{last_number}
-use Rattle.delivery.specs.Numbered.{delivered_of}
+use Rattle.delivery.specs.Numbered.{Delivered, delivered_of}
 use Rattle.word.specs.Decimal.{decimal, decimal_of}
 use Rattle.whole.specs.Words.{bytes}
 use Rattle.answer.specs.Verdict.{Verdict, refused, answered}

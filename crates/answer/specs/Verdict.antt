@@ -1,8 +1,10 @@
 -- What a line of a file comes to.
-use Rattle.std.specs.Prelude.{ℕ, ◌+◌, ◌≤◌, ◌≡◌, List, [], length}
+use Rattle.std.specs.Prelude.{ℕ, ◌+◌, ◌≤◌, ◌≡◌, List, [], length, Result, Ok, Err}
 use Rattle.std.proofs.lemmas.List.Edits.{sets}
 use Rattle.delivery.specs.declared.numbered.Numbered.{Numbered}
-use Rattle.answer.specs.declared.verdict.Judged.{Judged}
+use Rattle.refusal.specs.declared.Refusal.{Refusal}
+use Rattle.refusal.specs.Refusal.{code_for}
+use Rattle.answer.specs.declared.verdict.Answered.{Answered}
 
 -- the loop that the line leaves and the text that answers it, or the code that refuses it
 pub record Verdict : Type 0 where
@@ -17,6 +19,16 @@ abbrev pub answered : Numbered → List ℕ → Verdict
 answered l text = record { code = 0; state = l; text = text }
 
 -- the same with its text in a lent buffer
+pub record Judged : Type 0 where
+  pub code : ℕ
+  pub state : Numbered
+  pub len : ℕ
+
+-- what the program answers of a line to the loop l; a refused line leaves it
+abbrev pub judged_told : Numbered → Result Answered Refusal → Judged
+judged_told l (Ok a) = record { code = 0; state = a.state; len = a.len }
+judged_told l (Err r) = record { code = code_for r; state = l; len = 0 }
+
 abbrev pub judged_of : Verdict → Judged
 judged_of v = record { code = v.code; state = v.state; len = length v.text }
 

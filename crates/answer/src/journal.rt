@@ -1,10 +1,11 @@
 // The journal's program: each line of the file is a delivery, and is answered by itself grown by the answer.
 ghost use Rattle.std.specs.Prelude.{◌≡◌, ◌+◌, ◌^◌, ◌<◌, ◌≤◌, length};
 ghost use Rattle.std.proofs.lemmas.List.Edits.{sets};
-ghost use Rattle.answer.specs.Verdict.{answer_room, Judges};
+ghost use Rattle.delivery.specs.Numbered.{delivered_told};
+ghost use Rattle.answer.specs.Verdict.{answer_room, judged_told, Judges};
 ghost use Rattle.answer.specs.Journal.{answer_text, journal_answer, journal_line};
 
-use crate::verdict::{Judged, refused};
+use crate::verdict::Answered;
 use delivery::numbered::{Delivered, Numbered};
 use delivery_line::parse;
 use word::buffer::{put, put_decimal};
@@ -26,22 +27,24 @@ fn put_answer(out: &mut [u8], at: usize, code: u8, output: i32, last: u32) -> us
 }
 
 // The line itself, grown by the answer.
-fn reply(line: &[u8], told: Delivered, out: &mut [u8]) -> Judged
-    ensures { Judges (length line.now) (journal_answer line.now told) out.old result out.new }
+fn reply(line: &[u8], told: Delivered, out: &mut [u8]) -> Answered
+    ensures { Judges (length line.now) (journal_answer line.now (delivered_told told)) out.old (judged_told told.state (Ok result)) out.new }
 {
     put(out, 0, line);
-    let len = put_answer(out, line.len(), told.code, told.output, told.number);
-    let state = told.state;
-    Judged {
-        code: 0,
-        state,
+    let len = put_answer(out, line.len(), code(told.outcome), told.output, told.number);
+    Answered {
+        state: told.state,
         len,
     }
 }
 
 // A whole line, its line feed left out.
-pub(crate) fn journal_line(state: Numbered, line: &[u8], out: &mut [u8]) -> Judged
-    ensures { Judges (length line.now) (journal_line state line.now) out.old result out.new }
+pub(crate) fn journal_line(
+    state: Numbered,
+    line: &[u8],
+    out: &mut [u8],
+) -> Result<Answered, Refusal>
+    ensures { Judges (length line.now) (journal_line state line.now) out.old (judged_told state result) out.new }
 {
     match parse(line) {
         None => refused(state, 14),

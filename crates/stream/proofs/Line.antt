@@ -124,5 +124,5 @@ unfolding line_of judging
 line_passing r w p =
     by_test r.ended (λ e. over_passing r (w ++ (feed ∷ [])) e ∙ sym (cond_yes _ _ e))
     (λ e. line_going r w e p
-    ∙ ap₂ (λ (n : ℕ) (t : Step). cond (ltb line_most n) (refusing r 14) t) (length-append r.part w) (grown_step r w (judged_by r.journal r.state (r.part ++ w)))
+    ∙ ap₂ (λ (n : ℕ) (t : Step). cond (ltb line_most n) (refusing r 14) t) (length-append r.part w) (grown_step r w (judged_by r.lines r.state (r.part ++ w)))
     ∙ sym (cond_no _ _ e))

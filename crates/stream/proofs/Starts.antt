@@ -10,8 +10,7 @@ use Rattle.whole.proofs.Truth.{chosen}
 use Rattle.settings.specs.declared.table.Row.{Row}
 use Rattle.settings.specs.Table.{lines, rows_of, picked}
 use Rattle.settings.specs.Settings.{settings_of, completed, filled, ordered, settings_refusal}
-use Rattle.text.specs.declared.reader.Reading.{Reading}
-use Rattle.text.specs.Reader.{after_line, line_code, line_value, read_end, read_from, heads_in, sets_in, read_text}
+use Rattle.text.specs.Reader.{Reading, after_line, line_code, line_value, read_end, read_from, heads_in, sets_in, read_text}
 use Rattle.writer.proofs.Rows.{form_long, headed, gained}
 use Rattle.text.proofs.Texts.{heads_in_lem, sets_in_lem}
 use Rattle.text.proofs.Forms.{text_back}

@@ -11,7 +11,7 @@ use Rattle.stream.specs.Run.{Step, line_room, refusing, line_step, with_part, ke
 
 -- a line feed ends the line under way
 unfoldable pub judging : Run → Step
-judging r = cond (ltb line_most (length r.part)) (refusing r 14) (line_step r (judged_by r.journal r.state r.part))
+judging r = cond (ltb line_most (length r.part)) (refusing r 14) (line_step r (judged_by r.lines r.state r.part))
 
 -- nothing, where the run has ended
 abbrev pub idle : Run → Step
@@ -49,7 +49,7 @@ unfoldable pub line_of : Run → List ℕ → Bool → Step
 line_of r w fed =
     cond r.ended (idle r)
     (cond (ltb line_most (length r.part + length w)) (refusing r 14)
-    (cond fed (line_step r (judged_by r.journal r.state (r.part ++ w))) (idle (grown_of r w))))
+    (cond fed (line_step r (judged_by r.lines r.state (r.part ++ w))) (idle (grown_of r w))))
 
 -- ---- the end of the file
 

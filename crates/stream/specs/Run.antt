@@ -42,7 +42,7 @@ refused_line code line = refused_word ++ (shown code ++ (bytes " " ++ (shown lin
 abbrev pub over_of : Run → Run
 over_of r = record {
   ended = true;
-  journal = r.journal;
+  lines = r.lines;
   part = [];
   line = r.line;
   state = r.state;
@@ -62,7 +62,7 @@ following line = cond (ltb line highest) (line + 1) line
 abbrev pub next_of : Run → Numbered → Run
 next_of r l = record {
   ended = r.ended;
-  journal = r.journal;
+  lines = r.lines;
   part = [];
   line = following r.line;
   state = l;
@@ -76,7 +76,7 @@ line_step r v = cond (eqb v.code 0) (record { run = next_of r v.state; text = v.
 abbrev pub with_part : Run → List ℕ → Run
 with_part r part = record {
   ended = r.ended;
-  journal = r.journal;
+  lines = r.lines;
   part = part;
   line = r.line;
   state = r.state;

@@ -8,6 +8,7 @@ ghost use Rattle.stream.specs.Feed.{grown_of, line_of, passing, fed_of, out_fed,
 use crate::part::Part;
 use crate::run::{Run, Told};
 use answer::judge::judge;
+use refusal::Refusal;
 use std::mem;
 use word::end::end_at;
 
@@ -15,18 +16,15 @@ impl Run {
     // What a whole line leads to.
     fn judge(self, line: &[u8], out: &mut [u8]) -> Told
         requires { length line.now ≤ line_most }
-        ensures { Tells line_room (line_step self (judged_by self.journal self.state line.now)) out.old result out.new }
+        ensures { Tells line_room (line_step self (judged_by self.lines self.state line.now)) out.old result out.new }
     {
-        let judged = judge(self.journal, self.state, line, out);
-        let code = judged.code;
-        let state = judged.state;
-        if code == 0 {
-            return Told {
-                run: self.next(state),
-                len: judged.len,
-            };
+        match judge(self.lines, self.state, line, out) {
+            Ok(answered) => Told {
+                run: self.next(answered.state),
+                len: answered.len,
+            },
+            Err(refusal) => self.refuse(refusal, out),
         }
-        self.refuse(code, out)
     }
 
     // The line under way with more bytes of it.
@@ -42,7 +40,7 @@ impl Run {
     // earlier piece is joined with what was carried of it.
     fn line(mut self, more: &[u8], out: &mut [u8]) -> Told
         requires { length self.part + length more.now ≤ line_most }
-        ensures { Tells line_room (line_step self (judged_by self.journal self.state (self.part ++ more.now))) out.old result out.new }
+        ensures { Tells line_room (line_step self (judged_by self.lines self.state (self.part ++ more.now))) out.old result out.new }
     {
         if self.part.is_empty() {
             return self.judge(more, out);
@@ -60,7 +58,7 @@ impl Run {
             return Told { run: self, len: 0 };
         }
         if self.part.lacks_room(more) {
-            return self.refuse(14, out);
+            return self.refuse(Refusal::WrongForm, out);
         }
         if fed {
             return self.line(more, out);
@@ -115,6 +113,6 @@ impl Run {
         if self.ended | self.part.is_empty() {
             return Ok(Told { run: self, len: 0 });
         }
-        Ok(self.refuse(14, out))
+        Ok(self.refuse(Refusal::WrongForm, out))
     }
 }

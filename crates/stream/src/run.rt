@@ -1,18 +1,21 @@
 // What is carried from one piece of a file to the next, and what both programs do with a line.
 ghost use Rattle.std.specs.Prelude.{◌≡◌, ◌+◌, ◌≤◌, length};
 ghost use Rattle.std.proofs.lemmas.List.Edits.{sets};
+ghost use Rattle.refusal.specs.Refusal.{code_for};
 ghost use Rattle.stream.specs.Run.{line_room, refused_line, refusing, following, over_of, next_of, Tells};
 
 use crate::part::Part;
+use answer::judge::Lines;
 use delivery::numbered::Numbered;
+use refusal::Refusal;
 use word::buffer::{put, put_decimal};
 
-// A run that is under way: what has come of the line under way, and its number in the file. The lines are deliveries for the
-// journal, else samples. Once ended, nothing more is written.
+// A run that is under way: what has come of the line under way, and its number in the file. Once ended, nothing more
+// is written.
 #[derive(Drop)]
 pub struct Run {
     pub ended: bool,
-    pub journal: bool,
+    pub lines: Lines,
     pub part: Part,
     pub line: u32,
     pub state: Numbered,
@@ -71,10 +74,10 @@ impl Run {
     }
 
     // "The first refusal ends it".
-    pub(crate) fn refuse(self, code: u8, out: &mut [u8]) -> Told
-        ensures { Tells line_room (refusing self code) out.old result out.new }
+    pub(crate) fn refuse(self, refusal: Refusal, out: &mut [u8]) -> Told
+        ensures { Tells line_room (refusing self (code_for refusal)) out.old result out.new }
     {
-        let len = put_refused(out, code, self.line);
+        let len = put_refused(out, u8::from(refusal), self.line);
         Told {
             run: self.over(),
             len,

@@ -1,7 +1,7 @@
 -- 01's own example and those of its readings, computed by the definitions: the whole output of settings C and a file.
 use Prim.Native.Nat.{ℕ}
 use mathlib.Core.Path.{◌≡◌, refl, ap, ◌∙◌}
-use mathlib.Core.Bool.{false}
+use Rattle.answer.specs.declared.judge.Lines.TheVariants.{Samples}
 use mathlib.Core.List.{List, [], ◌∷◌, ◌++◌}
 use lib.IntN.{pos}
 use Rattle.whole.specs.Words.{bytes}
@@ -15,9 +15,8 @@ use Rattle.pid.specs.Sample.{lesser, greater, limited, ramped, filtered, derivat
 use Rattle.pid.specs.Law.{sample_of, step_of}
 use Rattle.memory.specs.Memory.{window, memory_ok, remembered, is_last, found_in, found_by}
 use Rattle.delivery.specs.Numbered.{served_of, delivered_of}
-use Rattle.text.specs.declared.reader.Reading.{Reading}
 use Rattle.word.specs.Decimal.{is_size, has_minus, unsigned, size_of, is_decimal, number_of, shown}
-use Rattle.text.specs.Reader.{read_text}
+use Rattle.text.specs.Reader.{Reading, read_text}
 use Rattle.text.proofs.SettingsC.{text_c, c_read}
 use Rattle.temperature.specs.Temperature.{code_of}
 use Rattle.window.specs.Window.{fresh_window, taken, mean_at, window_ok}
@@ -60,7 +59,7 @@ outputs (c ∷ cs) = c.output ∷ outputs cs
 
 pub played : List Case → List (List ℕ)
 played [] = []
-played (c ∷ cs) = output_of false text_c c.file ∷ played cs
+played (c ∷ cs) = output_of Samples text_c c.file ∷ played cs
 
 pub cases : List Case
 cases = three ∷ malformed ∷ range ∷ empty ∷ unended ∷ []
@@ -68,12 +67,12 @@ cases = three ∷ malformed ∷ range ∷ empty ∷ unended ∷ []
 -- the same from what the settings text is read as
 pub played_by : Reading → List Case → List (List ℕ)
 played_by d [] = []
-played_by d (c ∷ cs) = ((begun_by false d).text ++ run_over (begun_by false d).run c.file) ∷ played_by d cs
+played_by d (c ∷ cs) = ((begun_by Samples d).text ++ run_over (begun_by Samples d).run c.file) ∷ played_by d cs
 
 by_reading : (cs : List Case) → played cs ≡ played_by (read_text text_c) cs
 unfolding played played_by output_of
 by_reading [] = refl
-by_reading (c ∷ cs) = ap (λ (os : List (List ℕ)). output_of false text_c c.file ∷ os) (by_reading cs)
+by_reading (c ∷ cs) = ap (λ (os : List (List ℕ)). output_of Samples text_c c.file ∷ os) (by_reading cs)
 
 pub examples : played cases ≡ outputs cases
 unfolding rows_of in_table rounded fresh_window taken mean_at window_ok valid made_of lesser greater limited ramped filtered derivative sensed_of clamped back_calculated integrated acted_of code_of sample_of step_of refusal_of window memory_ok remembered is_last found_in found_by served_of delivered_of is_size has_minus unsigned size_of is_decimal number_of shown refused_line keeping by_answer by_sample sample_line judging byte_of finishing first_loop begun_by played_by three malformed range empty unended outputs cases

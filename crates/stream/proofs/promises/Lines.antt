@@ -18,6 +18,8 @@ use Rattle.text.specs.Reader.{read_text}
 use Rattle.word.proofs.Digits.{sized, no_size}
 use Rattle.answer.specs.Verdict.{Verdict, refused}
 use Rattle.answer.specs.Oven.{by_decimal, sample_line}
+use Rattle.answer.specs.declared.judge.Lines.{Lines}
+use Rattle.answer.specs.declared.judge.Lines.TheVariants.{Samples}
 use Rattle.answer.specs.Judge.{judged_by}
 use Rattle.stream.specs.declared.run.Run.{Run}
 use Rattle.stream.specs.Part.{line_most}
@@ -39,8 +41,8 @@ file_of [] rest = rest
 file_of (w ∷ ws) rest = w ++ (feed ∷ file_of ws rest)
 
 -- a line of more than 80 bytes is longer than any well-formed one
-abbrev pub judged_line : Bool → Numbered → List ℕ → Verdict
-judged_line journal l w = cond (ltb line_most (length w)) (refused l 14) (judged_by journal l w)
+abbrev pub judged_line : Lines → Numbered → List ℕ → Verdict
+judged_line lines l w = cond (ltb line_most (length w)) (refused l 14) (judged_by lines l w)
 
 -- "The first refusal ends it": what is written of line n, where next says what the lines after it lead to
 abbrev pub told_by : ℕ → (Numbered → List ℕ) → Verdict → List ℕ
@@ -51,9 +53,9 @@ abbrev pub rest_told : ℕ → List ℕ → List ℕ
 rest_told n [] = []
 rest_told n (b ∷ w) = refused_line 14 n
 
-abbrev pub told : Bool → Numbered → ℕ → List (List ℕ) → List ℕ → List ℕ
-told journal l n [] rest = rest_told n rest
-told journal l n (w ∷ ws) rest = told_by n (λ (m : Numbered). told journal m (following n) ws rest) (judged_line journal l w)
+abbrev pub told : Lines → Numbered → ℕ → List (List ℕ) → List ℕ → List ℕ
+told lines l n [] rest = rest_told n rest
+told lines l n (w ∷ ws) rest = told_by n (λ (m : Numbered). told lines m (following n) ws rest) (judged_line lines l w)
 
 -- ---- the whole file
 
@@ -96,7 +98,7 @@ rest_told_lem r (b ∷ w) g p =
     (λ _. finish_open (grown_of r (b ∷ w)) g.going (λ q. omega (arith, q, length-append r.part (b ∷ w))))
 
 -- a line with its line feed
-ready_line : (r : Run) (w : List ℕ) → Ready r → line_of r w true ≡ line_step r (judged_line r.journal r.state w)
+ready_line : (r : Run) (w : List ℕ) → Ready r → line_of r w true ≡ line_step r (judged_line r.lines r.state w)
 unfolding line_of
 ready_line r w g =
     let n : length r.part + length w ≡ length w = omega (arith, ap length g.none) in
@@ -104,7 +106,7 @@ ready_line r w g =
     ∙ by_test (ltb line_most (length w))
     (λ t. cond_yes _ _ (ap (ltb line_most) n ∙ t) ∙ sym (ap (line_step r) (cond_yes _ _ t)))
     (λ t. cond_no _ _ (ap (ltb line_most) n ∙ t)
-    ∙ ap (λ (x : List ℕ). line_step r (judged_by r.journal r.state x)) (ap (λ (x : List ℕ). x ++ w) g.none)
+    ∙ ap (λ (x : List ℕ). line_step r (judged_by r.lines r.state x)) (ap (λ (x : List ℕ). x ++ w) g.none)
     ∙ sym (ap (line_step r) (cond_no _ _ t)))
 
 next_ready : (r : Run) (l : Numbered) → Ready r → Ready (next_of r l)
@@ -113,9 +115,9 @@ next_ready r l g = record { going = g.going; none = refl }
 module _ (rest : List ℕ) (p : plain rest ≡ true) where
   -- what a judged line leads to, where the lines after it are told as next says
   line_told : (r : Run) (ws : List (List ℕ)) (v : Verdict) →
-      ((l : Numbered) → run_over (next_of r l) (file_of ws rest) ≡ told r.journal l (following r.line) ws rest) →
+      ((l : Numbered) → run_over (next_of r l) (file_of ws rest) ≡ told r.lines l (following r.line) ws rest) →
       (line_step r v).text ++ run_over (line_step r v).run (file_of ws rest)
-      ≡ told_by r.line (λ (l : Numbered). told r.journal l (following r.line) ws rest) v
+      ≡ told_by r.line (λ (l : Numbered). told r.lines l (following r.line) ws rest) v
   line_told r ws v f =
       let s = file_of ws rest in
       let t = refused_line v.code r.line in
@@ -125,7 +127,7 @@ module _ (rest : List ℕ) (p : plain rest ≡ true) where
 
   -- from the start of any line
   pub lines_told : (r : Run) (ws : List (List ℕ)) → Ready r → all_plain ws ≡ true →
-      run_over r (file_of ws rest) ≡ told r.journal r.state r.line ws rest
+      run_over r (file_of ws rest) ≡ told r.lines r.state r.line ws rest
   lines_told r [] g q = rest_told_lem r rest g p
   lines_told r (w ∷ ws) g q =
       let b = both (plain w) (all_plain ws) q in
@@ -133,30 +135,30 @@ module _ (rest : List ℕ) (p : plain rest ≡ true) where
       ap (run_over r) (sym (append_assoc w (feed ∷ []) s))
       ∙ run_cut r (w ++ (feed ∷ [])) s
       ∙ ap (λ (x : Step). x.text ++ run_over x.run s) (line_passing r w b.0 ∙ ready_line r w g)
-      ∙ line_told r ws (judged_line r.journal r.state w) (λ l. lines_told (next_of r l) ws (next_ready r l g) b.1)
+      ∙ line_told r ws (judged_line r.lines r.state w) (λ l. lines_told (next_of r l) ws (next_ready r l g) b.1)
 
 -- ---- the whole program
 
 -- "A refusal of the settings": its code and its line, whatever the file
-pub settings_refused : (journal : Bool) (settings file : List ℕ) → ((read_text settings).code ≡ 0 → ⊥) →
-    output_of journal settings file ≡ refused_line (read_text settings).code (read_text settings).line
+pub settings_refused : (lines : Lines) (settings file : List ℕ) → ((read_text settings).code ≡ 0 → ⊥) →
+    output_of lines settings file ≡ refused_line (read_text settings).code (read_text settings).line
 unfolding output_of begun_by
-settings_refused journal settings file h =
+settings_refused lines settings file h =
     let d = read_text settings in
-    let r = start_of journal d.line blank_of in
+    let r = start_of lines d.line blank_of in
     ap (λ (x : Step). x.text ++ run_over x.run file) (cond_no _ _ (ne_eqb d.code 0 h))
     ∙ ap (λ (x : List ℕ). refused_line d.code d.line ++ x) (over_quiet (over_of r) file refl)
     ∙ append-nil (refused_line d.code d.line)
 
 -- else what the lines of the file lead to, from line 1 on
-pub output_told : (journal : Bool) (settings : List ℕ) (ws : List (List ℕ)) (rest : List ℕ) → (read_text settings).code ≡ 0 →
+pub output_told : (lines : Lines) (settings : List ℕ) (ws : List (List ℕ)) (rest : List ℕ) → (read_text settings).code ≡ 0 →
     all_plain ws ≡ true → plain rest ≡ true →
-    output_of journal settings (file_of ws rest) ≡ told journal (first_loop journal (read_text settings).settings) 1 ws rest
+    output_of lines settings (file_of ws rest) ≡ told lines (first_loop lines (read_text settings).settings) 1 ws rest
 unfolding output_of begun_by
-output_told journal settings ws rest e q p =
+output_told lines settings ws rest e q p =
     let d = read_text settings in
     ap (λ (x : Step). x.text ++ run_over x.run (file_of ws rest)) (cond_yes _ _ (eq-eqb d.code 0 e))
-    ∙ lines_told rest p (start_of journal 1 (first_loop journal d.settings)) ws (record { going = refl; none = refl }) q
+    ∙ lines_told rest p (start_of lines 1 (first_loop lines d.settings)) ws (record { going = refl; none = refl }) q
 
 -- ---- a sample line of more than 80 bytes is no decimal: for 01's program the bound decides nothing
 
@@ -169,7 +171,7 @@ long_wrong : (w : List ℕ) → line_most < length w → decimal_of w ≡ None
 long_wrong w h =
     by_test (is_size most_digits (unsigned w)) (λ e. absurd (omega (arith, (sized most_digits (unsigned w) e).few, unsigned_long w))) (no_size w)
 
-pub every_sample_line : (l : Numbered) (w : List ℕ) → judged_line false l w ≡ sample_line l w
+pub every_sample_line : (l : Numbered) (w : List ℕ) → judged_line Samples l w ≡ sample_line l w
 unfolding sample_line
 every_sample_line l w =
     by_test (ltb line_most (length w))

@@ -10,13 +10,14 @@ use Rattle.whole.proofs.Truth.{chosen, cond_yes}
 use Rattle.settings.specs.declared.Settings.{Settings}
 use Rattle.settings.specs.Settings.{settings_refusal}
 use Rattle.command.specs.declared.Command.TheVariants.{Automatic}
-use Rattle.record.specs.declared.Made.{Made}
-use Rattle.record.specs.Record.{made_of}
+use Rattle.record.specs.Record.{Made, made_of}
 use Rattle.delivery.specs.declared.numbered.Numbered.{Numbered}
 use Rattle.delivery.specs.Numbered.{valid_of}
 use Rattle.delivery.proofs.promises.Delivery.{made_valid, again_valid}
 use Rattle.text.specs.Reader.{read_text}
 use Rattle.word.specs.End.{feed}
+use Rattle.answer.specs.declared.judge.Lines.{Lines}
+use Rattle.answer.specs.declared.judge.Lines.TheVariants.{Samples, Deliveries}
 use Rattle.answer.specs.Judge.{judged_by}
 use Rattle.answer.proofs.promises.Verdict.{judged_valid}
 use Rattle.stream.specs.declared.run.Run.{Run}
@@ -33,9 +34,9 @@ module _ (r : Run) (v : valid_of r.state ≡ true) where
   judging_good : Good (judging r)
   unfolding judging
   judging_good =
-      let j = judged_by r.journal r.state r.part in
+      let j = judged_by r.lines r.state r.part in
       chosen Good (ltb line_most (length r.part)) (λ _. v)
-      (λ _. chosen Good (eqb j.code 0) (λ _. judged_valid r.journal r.state v r.part) (λ _. v))
+      (λ _. chosen Good (eqb j.code 0) (λ _. judged_valid r.lines r.state v r.part) (λ _. v))
 
   pub byte_valid : (b : ℕ) → valid_of (byte_of r b).run.state ≡ true
   unfolding byte_of keeping
@@ -52,8 +53,12 @@ stays_valid r [] v = v
 stays_valid r (b ∷ s) v = stays_valid (byte_of r b).run s (byte_valid r v b)
 
 -- and the loop that a settings text makes keeps them
-pub begun_valid : (journal : Bool) (s : List ℕ) → (read_text s).code ≡ 0 → valid_of (beginning journal s).run.state ≡ true
+pub begun_valid : (lines : Lines) (s : List ℕ) → (read_text s).code ≡ 0 → valid_of (beginning lines s).run.state ≡ true
 unfolding begun_by first_loop
-begun_valid journal s e =
-    let v = made_valid (read_text s).settings (made_right (read_text s).settings (text_right s e)) in
-    rw (eq-eqb (read_text s).code 0 e) (chosen (λ (l : Numbered). valid_of l ≡ true) journal (λ _. v) (λ _. again_valid _ 1 Automatic v))
+begun_valid lines s e =
+    rw (eq-eqb (read_text s).code 0 e) (first_valid lines)
+    where
+      first_valid : (lines : Lines) → valid_of (first_loop lines (read_text s).settings) ≡ true
+      unfolding first_loop
+      first_valid Samples = again_valid _ 1 Automatic (made_valid (read_text s).settings (made_right (read_text s).settings (text_right s e)))
+      first_valid Deliveries = made_valid (read_text s).settings (made_right (read_text s).settings (text_right s e))

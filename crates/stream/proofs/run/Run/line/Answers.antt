@@ -17,10 +17,10 @@ pub returns-then-is_empty : goal.returns-then-is_empty
 returns-then-is_empty c =
     let r = c.args.self in
     let n = none r.part (eqb-true (length r.part) 0 (sym c.is_empty.ensures ∙ c.if-is_empty.true)) in
-    step_by (ap (λ (part : List ℕ). line_step r (judged_by r.journal r.state (part ++ c.args.more.now))) n) c.judge.ensures
+    step_by (ap (λ (part : List ℕ). line_step r (judged_by r.lines r.state (part ++ c.args.more.now))) n) c.judge.ensures
 
 pub returns : goal.returns
 returns c =
     let r = c.args.self in
     let p = c.as_slice.ensures ∙ c.push.ensures ∙ ap (λ (part : List ℕ). part ++ c.args.more.now) c.replace-joined.ensures.value in
-    step_by (sym (ap (λ (w : List ℕ). line_step r (judged_by r.journal r.state w)) p)) c.judge-2.ensures
+    step_by (sym (ap (λ (w : List ℕ). line_step r (judged_by r.lines r.state w)) p)) c.judge-2.ensures
