@@ -6,15 +6,14 @@ use native.Mathlib.Omega.{arith}
 use lib.ListN.{length}
 use lib.Seq.{sets}
 use Rattle.delivery.specs.declared.numbered.Numbered.{Numbered}
-use Rattle.answer.specs.declared.verdict.Judged.{Judged}
-use Rattle.answer.specs.Verdict.{Verdict, refused, answered, judged_of, answer_room, Judges}
+use Rattle.answer.specs.Verdict.{Verdict, Judged, refused, answered, judged_of, answer_room, Judges}
 
 pub judges_by : {v u : Verdict} {most : ℕ} {l₀ l : List ℕ} {r : Judged} → u ≡ v → Judges most v l₀ r l → Judges most u l₀ r l
 judges_by e p = rw e p
 
 -- a refusal puts nothing
-pub judges_refused : {most code : ℕ} {l : List ℕ} {s : Numbered} {r : Judged} → r ≡ judged_of (refused s code) → Judges most (refused s code) l r l
-judges_refused e = record { is = e; holds = refl; few = omega (arith, ap (λ (j : Judged). j.len) e) }
+pub judges_refused : {most code : ℕ} {l : List ℕ} {s : Numbered} → Judges most (refused s code) l (record { code = code; state = s; len = 0 }) l
+judges_refused = record { is = refl; holds = refl; few = omega arith }
 
 -- a text that was put from the first byte on
 pub judges_answered : {most n : ℕ} {l₀ l : List ℕ} (s : Numbered) (text : List ℕ) → (n ≡ 0 + length text) × (l ≡ sets l₀ 0 text) → n ≤ most + answer_room →

@@ -1,5 +1,5 @@
 // The journal's program: each line of the file is a delivery, and is answered by itself grown by the answer.
-ghost use Rattle.std.specs.Prelude.{◌≡◌, ◌+◌, ◌^◌, ◌<◌, ◌≤◌, length};
+ghost use Rattle.std.specs.Prelude.{◌≡◌, ◌+◌, ◌^◌, ◌<◌, ◌≤◌, length, Ok};
 ghost use Rattle.std.proofs.lemmas.List.Edits.{sets};
 ghost use Rattle.delivery.specs.Numbered.{delivered_told};
 ghost use Rattle.answer.specs.Verdict.{answer_room, judged_told, Judges};
@@ -8,6 +8,7 @@ ghost use Rattle.answer.specs.Journal.{answer_text, journal_answer, journal_line
 use crate::verdict::Answered;
 use delivery::numbered::{Delivered, Numbered};
 use delivery_line::parse;
+use refusal::{Refusal, code};
 use word::buffer::{put, put_decimal};
 
 // ` code=C output=U last=L` and a line feed, from place at on; the place after it.
@@ -31,7 +32,8 @@ fn reply(line: &[u8], told: Delivered, out: &mut [u8]) -> Answered
     ensures { Judges (length line.now) (journal_answer line.now (delivered_told told)) out.old (judged_told told.state (Ok result)) out.new }
 {
     put(out, 0, line);
-    let len = put_answer(out, line.len(), code(told.outcome), told.output, told.number);
+    let code = code(told.outcome);
+    let len = put_answer(out, line.len(), code, told.output, told.number);
     Answered {
         state: told.state,
         len,
@@ -47,7 +49,10 @@ pub(crate) fn journal_line(
     ensures { Judges (length line.now) (journal_line state line.now) out.old (judged_told state result) out.new }
 {
     match parse(line) {
-        None => refused(state, 14),
-        Some(asked) => reply(line, state.deliver(asked.number, asked.command), out),
+        None => Err(Refusal::WrongForm),
+        Some(asked) => {
+            let told = state.deliver(asked.number, asked.command);
+            Ok(reply(line, told, out))
+        }
     }
 }

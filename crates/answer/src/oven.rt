@@ -27,8 +27,10 @@ fn answer(state: Numbered, output: i32, out: &mut [u8]) -> Answered
 fn tell(told: Delivered, out: &mut [u8]) -> Result<Answered, Refusal>
     ensures { Judges 0 (by_answer (delivered_told told)) out.old (judged_told told.state result) out.new }
 {
-    told.outcome?;
-    Ok(answer(told.state, told.output, out))
+    match told.outcome {
+        Ok(()) => Ok(answer(told.state, told.output, out)),
+        Err(refusal) => Err(refusal),
+    }
 }
 
 fn sample(state: Numbered, pv: i32, out: &mut [u8]) -> Result<Answered, Refusal>
@@ -42,13 +44,11 @@ fn sample(state: Numbered, pv: i32, out: &mut [u8]) -> Result<Answered, Refusal>
 }
 
 // A whole line, its line feed left out.
-pub(crate) fn sample_line(
-    state: Numbered,
-    line: &[u8],
-    out: &mut [u8],
-) -> Result<Answered, Refusal>
+pub(crate) fn sample_line(state: Numbered, line: &[u8], out: &mut [u8]) -> Result<Answered, Refusal>
     ensures { Judges 0 (sample_line state line.now) out.old (judged_told state result) out.new }
 {
-    let pv = read_decimal(line).ok_or(Refusal::WrongForm)?;
-    sample(state, pv, out)
+    match read_decimal(line) {
+        None => Err(Refusal::WrongForm),
+        Some(pv) => sample(state, pv, out),
+    }
 }

@@ -1,7 +1,7 @@
 -- What holds of every line's verdict.
 use Prim.Native.Nat.{ℕ}
 use mathlib.Core.Path.{◌≡◌, refl}
-use mathlib.Core.Bool.{Bool, true}
+use mathlib.Core.Bool.{true}
 use mathlib.Core.List.{List, []}
 use lib.Dec.{eqb}
 use Rattle.whole.proofs.Truth.{chosen}
@@ -17,6 +17,8 @@ use Rattle.delivery_line.specs.Line.{delivery_of}
 use Rattle.answer.specs.Verdict.{Verdict}
 use Rattle.answer.specs.Oven.{sampled_of, by_answer, by_sample, by_decimal, sample_line}
 use Rattle.answer.specs.Journal.{by_delivery, journal_line}
+use Rattle.answer.specs.declared.judge.Lines.{Lines}
+use Rattle.answer.specs.declared.judge.Lines.TheVariants.{Samples, Deliveries}
 use Rattle.answer.specs.Judge.{judged_by}
 
 -- ---- a refused line has no text
@@ -35,10 +37,10 @@ delivery_quiet : (l : Numbered) (w : List ℕ) (d : Option Delivery) → Quiet (
 delivery_quiet l w None = λ _. refl
 delivery_quiet l w (Some d) = λ h. absurd (h refl)
 
-pub refused_quiet : (journal : Bool) (l : Numbered) (w : List ℕ) → ((judged_by journal l w).code ≡ 0 → ⊥) → (judged_by journal l w).text ≡ []
+pub refused_quiet : (lines : Lines) (l : Numbered) (w : List ℕ) → ((judged_by lines l w).code ≡ 0 → ⊥) → (judged_by lines l w).text ≡ []
 unfolding sample_line journal_line
-refused_quiet journal l w =
-    chosen Quiet journal (λ _. delivery_quiet l w (delivery_of w)) (λ _. sample_quiet l (decimal_of w))
+refused_quiet Samples l w = sample_quiet l (decimal_of w)
+refused_quiet Deliveries l w = delivery_quiet l w (delivery_of w)
 
 -- ---- "Every loop the software makes keeps them": a line leaves a loop that keeps the state rules
 
@@ -57,7 +59,7 @@ module _ (l : Numbered) (v : valid_of l ≡ true) where
   delivery_good w None = v
   delivery_good w (Some d) = again_valid l d.number d.command v
 
-pub judged_valid : (journal : Bool) (l : Numbered) → valid_of l ≡ true → (w : List ℕ) → valid_of (judged_by journal l w).state ≡ true
+pub judged_valid : (lines : Lines) (l : Numbered) → valid_of l ≡ true → (w : List ℕ) → valid_of (judged_by lines l w).state ≡ true
 unfolding sample_line journal_line
-judged_valid journal l v w =
-    chosen Good journal (λ _. delivery_good l v w (delivery_of w)) (λ _. sample_good l v (decimal_of w))
+judged_valid Samples l v w = sample_good l v (decimal_of w)
+judged_valid Deliveries l v w = delivery_good l v w (delivery_of w)

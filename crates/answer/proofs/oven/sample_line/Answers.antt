@@ -10,7 +10,7 @@ use Rattle.answer.proofs.oven.sample_line.Goals as goal
 pub returns-in-None : goal.returns-in-None
 unfolding sample_line
 returns-in-None c =
-    judges_by (ap (by_decimal c.args.state) (sym c.read_decimal.ensures ∙ c.in-None.is)) (judges_refused c.refused.ensures)
+    judges_by (ap (by_decimal c.args.state) (sym c.read_decimal.ensures ∙ c.in-None.is)) judges_refused
 
 pub returns-in-Some : goal.returns-in-Some
 unfolding sample_line
