@@ -4,11 +4,13 @@
 
 ghost use Rattle.std.specs.Io.{ReadsAtMost};
 
+use answer::judge::Lines;
 use std::env::Env;
 use std::fs::{File, Files};
 use std::io::{Cursor, Print, Read, Write};
 use std::{io, str};
-use stream::run::Run;
+use stream::run::{Run, Told};
+use stream::start::begin;
 
 // How many bytes are read at a time. A settings file's first so many decide its reading, and no path that can be opened has more.
 const PIECE: usize = 4_096;
@@ -59,14 +61,13 @@ fn settings<R: Files>(rt: &R, path: &[u8], text: &mut [u8]) -> io::Result<usize>
 }
 
 // Starts the run from the settings file.
-fn start<R: Files + Print>(rt: &R, journal: bool, path: &[u8]) -> Result<Run, Failure> {
+fn start<R: Files + Print>(rt: &R, kind: Lines, path: &[u8]) -> Result<Run, Failure> {
     let mut text = [0u8; PIECE];
     let n = settings(rt, path, &mut text).map_err(Failure::Settings)?;
     let mut out = [0u8; Run::ROOM];
-    let ran = stream::start::begin(journal, &text[..n], &mut out);
-    let len = ran.len;
+    let Told { run, len } = begin(kind, &text[..n], &mut out).unwrap();
     rt.write_all(&out[..len]).map_err(Failure::Output)?;
-    Ok(ran.run)
+    Ok(run)
 }
 
 // The pieces of a file, to its end or to the refusal that ends the run. Nothing says that a file ends, and no file outlives so
@@ -80,11 +81,10 @@ fn pieces<P: Print, F: Read>(rt: &P, file: &mut F, run: Run) -> Result<Run, Fail
         if n == 0 {
             break;
         }
-        let ran = now.feed(&piece[..n], &mut out);
-        let len = ran.len;
-        rt.write_all(&out[..len]).map_err(Failure::Output)?;
-        now = ran.run;
-        if !ran.done || now.ended {
+        let told = now.feed(&piece[..n], &mut out).unwrap();
+        rt.write_all(&out[..told.len]).map_err(Failure::Output)?;
+        now = told.run;
+        if now.ended {
             break;
         }
     }
@@ -96,18 +96,17 @@ fn lines<R: Files + Print>(rt: &R, path: &[u8], run: Run) -> Result<(), Failure>
     let mut file = open(rt, path).map_err(Failure::Lines)?;
     let last = pieces(rt, &mut file, run)?;
     let mut out = [0u8; Run::ROOM];
-    let ran = last.finish(&mut out);
-    let len = ran.len;
-    rt.write_all(&out[..len]).map_err(Failure::Output)
+    let told = last.finish(&mut out).unwrap();
+    rt.write_all(&out[..told.len]).map_err(Failure::Output)
 }
 
 fn answer<R: Files + Print>(
     rt: &R,
-    journal: bool,
+    kind: Lines,
     path: &[u8],
     file: &[u8],
 ) -> Result<(), Failure> {
-    let run = start(rt, journal, path)?;
+    let run = start(rt, kind, path)?;
     if run.ended {
         return Ok(());
     }
@@ -130,7 +129,7 @@ fn tell<E: Print>(err: &E, what: &[u8], why: io::Error) -> io::Result<()> {
 }
 
 // A whole program: its first argument names the settings file, its second the file of lines.
-pub fn run(rt: &HostRuntime, journal: bool, usage: &[u8]) {
+pub fn run(rt: &HostRuntime, kind: Lines, usage: &[u8]) {
     let err = rt.stderr();
     let mut path = [0u8; PIECE];
     let mut file = [0u8; PIECE];
@@ -138,7 +137,7 @@ pub fn run(rt: &HostRuntime, journal: bool, usage: &[u8]) {
         let _ = err.write_all(usage);
         return;
     };
-    let _ = match answer(rt, journal, &path[..n], &file[..m]) {
+    let _ = match answer(rt, kind, &path[..n], &file[..m]) {
         Ok(()) => Ok(()),
         Err(Failure::Settings(why)) => tell(&err, &path[..n], why),
         Err(Failure::Lines(why)) => tell(&err, &file[..m], why),

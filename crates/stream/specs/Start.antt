@@ -1,5 +1,5 @@
 -- How a run starts: from a settings text.
-use Rattle.std.specs.Prelude.{ℕ, Bool, false, cond, List, [], ◌++◌, true, eqb, leb, length, Option, Some, None}
+use Rattle.std.specs.Prelude.{ℕ, false, cond, List, [], ◌++◌, true, eqb, leb, length, Option, Some, None}
 use Rattle.settings.specs.declared.Settings.{Settings}
 use Rattle.command.specs.declared.Command.TheVariants.{Automatic}
 use Rattle.delivery.specs.declared.numbered.Numbered.{Numbered}

@@ -1,6 +1,6 @@
 // How a run starts: from a settings text.
 ghost use Rattle.std.specs.Prelude.{◌≡◌, ◌+◌, ◌≤◌, length};
-ghost use Rattle.settings.specs.Table.{lines};
+ghost use Rattle.settings.specs.Table.{lines as settings_lines};
 ghost use Rattle.text.specs.Reader.{reading_told};
 ghost use Rattle.stream.specs.Run.{line_room, Tells};
 ghost use Rattle.stream.specs.Feed.{Counts};
@@ -41,7 +41,7 @@ impl Run {
 
 // The run that a reading of the settings begins; a refusal of them ends it.
 fn begun(lines: Lines, read: Reading, out: &mut [u8]) -> Told
-    requires { read.line ≤ lines + 1 }
+    requires { read.line ≤ settings_lines + 1 }
     ensures { Tells line_room (begun_by lines (reading_told read)) out.old result out.new }
 {
     match read.outcome {

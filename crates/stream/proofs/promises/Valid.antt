@@ -1,7 +1,7 @@
 -- "Every loop the software makes keeps them": the loop of a run keeps the state rules from byte to byte, so that code 10 never shows.
 use Prim.Native.Nat.{ℕ}
 use mathlib.Core.Path.{◌≡◌, ap}
-use mathlib.Core.Bool.{Bool, true}
+use mathlib.Core.Bool.{true}
 use mathlib.Core.List.{List, [], ◌∷◌}
 use borrow.Author.Tests.{eq-eqb}
 use lib.Dec.{eqb, ltb}
@@ -11,8 +11,7 @@ use Rattle.settings.specs.declared.Settings.{Settings}
 use Rattle.settings.specs.Settings.{settings_refusal}
 use Rattle.command.specs.declared.Command.TheVariants.{Automatic}
 use Rattle.record.specs.Record.{Made, made_of}
-use Rattle.delivery.specs.declared.numbered.Numbered.{Numbered}
-use Rattle.delivery.specs.Numbered.{valid_of}
+use Rattle.delivery.specs.Numbered.{valid_of, made_of as numbered_of}
 use Rattle.delivery.proofs.promises.Delivery.{made_valid, again_valid}
 use Rattle.text.specs.Reader.{read_text}
 use Rattle.word.specs.End.{feed}
@@ -52,13 +51,14 @@ pub stays_valid : (r : Run) (s : List ℕ) → valid_of r.state ≡ true → val
 stays_valid r [] v = v
 stays_valid r (b ∷ s) v = stays_valid (byte_of r b).run s (byte_valid r v b)
 
+first_valid : (lines : Lines) (s : Settings) → valid_of (numbered_of s).state ≡ true → valid_of (first_loop lines s) ≡ true
+unfolding first_loop
+first_valid Samples s v = again_valid _ 1 Automatic v
+first_valid Deliveries s v = v
+
 -- and the loop that a settings text makes keeps them
 pub begun_valid : (lines : Lines) (s : List ℕ) → (read_text s).code ≡ 0 → valid_of (beginning lines s).run.state ≡ true
-unfolding begun_by first_loop
+unfolding begun_by
 begun_valid lines s e =
-    rw (eq-eqb (read_text s).code 0 e) (first_valid lines)
-    where
-      first_valid : (lines : Lines) → valid_of (first_loop lines (read_text s).settings) ≡ true
-      unfolding first_loop
-      first_valid Samples = again_valid _ 1 Automatic (made_valid (read_text s).settings (made_right (read_text s).settings (text_right s e)))
-      first_valid Deliveries = made_valid (read_text s).settings (made_right (read_text s).settings (text_right s e))
+    let v = made_valid (read_text s).settings (made_right (read_text s).settings (text_right s e)) in
+    rw (eq-eqb (read_text s).code 0 e) (first_valid lines (read_text s).settings v)
