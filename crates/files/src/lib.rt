@@ -100,12 +100,7 @@ fn lines<R: Files + Print>(rt: &R, path: &[u8], run: Run) -> Result<(), Failure>
     rt.write_all(&out[..told.len]).map_err(Failure::Output)
 }
 
-fn answer<R: Files + Print>(
-    rt: &R,
-    kind: Lines,
-    path: &[u8],
-    file: &[u8],
-) -> Result<(), Failure> {
+fn answer<R: Files + Print>(rt: &R, kind: Lines, path: &[u8], file: &[u8]) -> Result<(), Failure> {
     let run = start(rt, kind, path)?;
     if run.ended {
         return Ok(());
