@@ -9,9 +9,9 @@ use Rattle.whole.proofs.Parts.{zs}
 use Rattle.whole.proofs.Lin.{Lin, at, lins}
 use Rattle.whole.proofs.Negated.{mul_neg, neg_mul, negs, neg_sub, lt_neg}
 use Rattle.record.specs.Units.{F, B}
-use Rattle.pid.specs.declared.sample.Fixed.{Fixed}
-use Rattle.pid.specs.declared.sample.Moving.{Moving}
-use Rattle.pid.specs.declared.sample.Sensed.{Sensed}
+use Rattle.pid.specs.Numbers.{Fixed}
+use Rattle.pid.specs.Numbers.{Moving}
+use Rattle.pid.specs.Numbers.{Sensed}
 use Rattle.pid.specs.Units.{rounded}
 use Rattle.pid.specs.Sample.{lesser, greater, limited, ramped, filtered, derivative, error_of, new_w, new_y, sensed_of, transferred, share_of, v_of, limited_v, room_of, clamped, back_calculated, integrated, new_i, acted_of, moved_of}
 use Rattle.pid.proofs.Rounding.{rounded_neg}

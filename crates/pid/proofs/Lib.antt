@@ -1,4 +1,4 @@
-pub mod Fit
+pub mod Held
 pub mod Shapes
 pub mod Rounding
 pub mod Arithmetic

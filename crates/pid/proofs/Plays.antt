@@ -23,7 +23,7 @@ use Rattle.record.specs.Record.{guard_of, valid}
 use Rattle.record.specs.Refusals.{refusal_of}
 use Rattle.record.proofs.Rules.{holds_of}
 use Rattle.record.proofs.Refused.{sample_code}
-use Rattle.pid.specs.declared.sample.Moving.{Moving}
+use Rattle.pid.specs.Numbers.{Moving}
 use Rattle.pid.specs.Sample.{acted_of, moved_of}
 use Rattle.pid.specs.Law.{with_moving, fixed_of, sample_of, step_of}
 use Rattle.command.specs.Sequence.{after, each}

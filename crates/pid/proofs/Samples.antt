@@ -9,9 +9,9 @@ use Rattle.whole.proofs.Truth.{chosen, cond_yes, cond_no}
 use Rattle.whole.proofs.Parts.{zs}
 use Rattle.whole.proofs.Num.{nums, stays}
 use Rattle.record.specs.Units.{B}
-use Rattle.pid.specs.declared.sample.Fixed.{Fixed}
-use Rattle.pid.specs.declared.sample.Moving.{Moving}
-use Rattle.pid.specs.declared.sample.Sensed.{Sensed}
+use Rattle.pid.specs.Numbers.{Fixed}
+use Rattle.pid.specs.Numbers.{Moving}
+use Rattle.pid.specs.Numbers.{Sensed}
 use Rattle.pid.specs.Sample.{new_y, sensed_of, transferred, room_of, v_of, limited_v, back_calculated, integrated, new_i, ordinary_of, acted_of}
 use Rattle.settings.specs.Table.{reach}
 use Rattle.pid.specs.Bounds.{FixedOk, MovingOk, SensedOk}

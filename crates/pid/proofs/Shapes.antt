@@ -4,9 +4,9 @@ use mathlib.Core.Bool.{Bool}
 use lib.IntN.{ℤ}
 use Rattle.window.specs.declared.Window.{Window}
 use Rattle.record.specs.declared.Loop.{Loop}
-use Rattle.pid.specs.declared.sample.Fixed.{Fixed}
-use Rattle.pid.specs.declared.sample.Moving.{Moving}
-use Rattle.pid.specs.declared.sample.Sensed.{Sensed}
+use Rattle.pid.specs.Numbers.{Fixed}
+use Rattle.pid.specs.Numbers.{Moving}
+use Rattle.pid.specs.Numbers.{Sensed}
 use Rattle.pid.specs.Law.{with_moving}
 
 pub moving_is : {w w' u u' i i' y y' : ℤ} {r p p' : Bool} → w ≡ w' → u ≡ u' → i ≡ i' → y ≡ y' → p ≡ p' →

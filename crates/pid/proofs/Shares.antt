@@ -19,9 +19,9 @@ use Rattle.record.specs.Record.{valid}
 use Rattle.record.specs.Refusals.{refusal_of}
 use Rattle.record.proofs.Rules.{holds_of}
 use Rattle.record.proofs.Refused.{sample_reach}
-use Rattle.pid.specs.declared.sample.Fixed.{Fixed}
-use Rattle.pid.specs.declared.sample.Moving.{Moving}
-use Rattle.pid.specs.declared.sample.Sensed.{Sensed}
+use Rattle.pid.specs.Numbers.{Fixed}
+use Rattle.pid.specs.Numbers.{Moving}
+use Rattle.pid.specs.Numbers.{Sensed}
 use Rattle.pid.specs.Units.{rounded}
 use Rattle.pid.specs.Bounds.{FixedOk, MovingOk, SensedOk}
 use Rattle.pid.specs.Sample.{lesser, greater, limited, share_of, v_of, limited_v, clamped, back_calculated, integrated, new_i, acted_of}

@@ -10,8 +10,8 @@ use lib.IntN.{ℤ, pos}
 use lib.ListN.{length, take, drop, get_or, set, length-set}
 use lib.Seq.{length-take-le, sets, drop-cons, drop-length, drop-drop, drop-set-lt, get_or-drop}
 use Rattle.whole.specs.Numbers.{Within}
-use Rattle.pid.specs.declared.sample.Fixed.{Fixed}
-use Rattle.pid.specs.declared.sample.Moving.{Moving}
+use Rattle.pid.specs.Numbers.{Fixed}
+use Rattle.pid.specs.Numbers.{Moving}
 use Rattle.settings.specs.Table.{reach}
 use Rattle.temperature.specs.Temperature.{ranged}
 use Rattle.temperature.proofs.Ranged.{ranged_first, ranged_on}

@@ -2,9 +2,9 @@
 use Rattle.std.specs.Prelude.{ℤ, pos, ◌≤ℤ◌, ◌<ℤ◌}
 use Rattle.whole.specs.Numbers.{Within}
 use Rattle.record.specs.Units.{B, fine_reach}
-use Rattle.pid.specs.declared.sample.Fixed.{Fixed}
-use Rattle.pid.specs.declared.sample.Moving.{Moving}
-use Rattle.pid.specs.declared.sample.Sensed.{Sensed}
+use Rattle.pid.specs.Numbers.{Fixed}
+use Rattle.pid.specs.Numbers.{Moving}
+use Rattle.pid.specs.Numbers.{Sensed}
 use Rattle.pid.specs.Units.{part, excess_most}
 use Rattle.settings.specs.Table.{reach, fastest, gain, share}
 

@@ -13,8 +13,8 @@ use Rattle.record.specs.Units.{F}
 use Rattle.record.specs.Record.{valid}
 use Rattle.record.specs.Refusals.{refusal_of}
 use Rattle.record.specs.Commands.{hold_of, put_of, automatic_of, target_of, set_of}
-use Rattle.pid.specs.declared.sample.Fixed.{Fixed}
-use Rattle.pid.specs.declared.sample.Moving.{Moving}
+use Rattle.pid.specs.Numbers.{Fixed}
+use Rattle.pid.specs.Numbers.{Moving}
 use Rattle.pid.specs.Sample.{moved_of}
 
 -- ---- the fields that a sample changes, written out once

@@ -1,4 +1,6 @@
 pub mod Units
+pub mod Numbers
+pub mod Told
 pub mod Sample
 pub mod Bounds
 pub mod Law

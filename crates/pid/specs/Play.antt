@@ -6,8 +6,8 @@ use Rattle.temperature.specs.Temperature.{first_bad, first_code, bad_told}
 use Rattle.command.specs.declared.Command.TheVariants.{Sample}
 use Rattle.record.specs.declared.Loop.{Loop}
 use Rattle.record.specs.Record.{guard_of, valid}
-use Rattle.pid.specs.declared.sample.Fixed.{Fixed}
-use Rattle.pid.specs.declared.sample.Moving.{Moving}
+use Rattle.pid.specs.Numbers.{Fixed}
+use Rattle.pid.specs.Numbers.{Moving}
 use Rattle.pid.specs.declared.play.Played.{Played as Playing}
 use Rattle.pid.specs.Sample.{moved_of}
 use Rattle.pid.specs.Law.{step_of}

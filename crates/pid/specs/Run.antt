@@ -5,7 +5,7 @@ use Rattle.command.specs.declared.Command.{Command}
 use Rattle.command.specs.declared.Command.TheVariants.{Sample, Hold, Put, Automatic, Target, Set}
 use Rattle.record.specs.declared.Loop.{Loop}
 use Rattle.record.specs.Refusals.{refusal_of}
-use Rattle.pid.specs.declared.sample.Sensed.{Sensed}
+use Rattle.pid.specs.Numbers.{Sensed}
 use Rattle.pid.specs.Sample.{sensed_of, share_of, v_of, limited_v}
 use Rattle.pid.specs.Law.{fixed_of, moving_of, read_at, step_of}
 use Rattle.command.specs.Sequence.{after}

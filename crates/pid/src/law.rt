@@ -1,13 +1,15 @@
 // The plain law, one command at a time. It knows no numbers.
 ghost use Rattle.std.specs.Prelude.{◌≡◌, true, ◌<◌};
-ghost use Rattle.whole.specs.Numbers.{plus, Within};
-ghost use Rattle.settings.specs.Table.{reach, sets, in_reach};
+ghost use Rattle.whole.specs.Numbers.{plus};
+ghost use Rattle.settings.specs.Table.{sets, in_reach};
 ghost use Rattle.settings.specs.Settings.{gains_at};
 ghost use Rattle.record.specs.Record.{valid};
 ghost use Rattle.record.specs.Refusals.{refusal_of};
+ghost use Rattle.pid.specs.Told.{fixed_told, moving_told};
 ghost use Rattle.pid.specs.Law.{sign_of, fixed_of, moving_of, with_moving, sample_of, step_of, law_of, obeyed_told};
 
-use crate::sample::{Fixed, Moving, act, sense};
+use crate::numbers::{Fixed, Moving};
+use crate::sample::{act, sense};
 use command::Command;
 use record::{After, Loop};
 use refusal::Refusal;
@@ -31,7 +33,7 @@ fn gains(l: Loop) -> Gains
 
 pub(crate) fn fixed(l: Loop) -> Fixed
     requires { valid l ≡ true }
-    ensures { result ≡ fixed_of l }
+    ensures { fixed_told result ≡ fixed_of l }
 {
     let g = gains(l);
     Fixed {
@@ -50,7 +52,8 @@ pub(crate) fn fixed(l: Loop) -> Fixed
 }
 
 pub(crate) fn moving(l: Loop) -> Moving
-    ensures { result ≡ moving_of l }
+    requires { valid l ≡ true }
+    ensures { moving_told result ≡ moving_of l }
 {
     Moving {
         w: i64::from(l.w),
@@ -63,8 +66,7 @@ pub(crate) fn moving(l: Loop) -> Moving
 }
 
 pub(crate) fn with_moving(mut l: Loop, window: Window, raw: i32, m: Moving) -> Loop
-    requires { Within reach m.w × Within reach m.u }
-    ensures { result ≡ with_moving l window raw m }
+    ensures { result ≡ with_moving l window raw (moving_told m) }
 {
     l.w = m.w as i32;
     l.u = m.u as i32;

@@ -3,5 +3,6 @@
 #![tactic(auto)]
 
 pub mod law;
+mod numbers;
 pub mod play;
 mod sample;

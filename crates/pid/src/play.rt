@@ -4,11 +4,12 @@ ghost use Rattle.refusal.specs.Refusal.{code_for};
 ghost use Rattle.temperature.specs.Temperature.{first_code, ranged};
 ghost use Rattle.window.specs.Means.{front_filled};
 ghost use Rattle.record.specs.Record.{guard_of, valid};
-ghost use Rattle.pid.specs.Bounds.{FixedOk, MovingOk};
+ghost use Rattle.pid.specs.Told.{fixed_told, moving_told};
 ghost use Rattle.pid.specs.Play.{moved_after, moved_outputs, reads_of, after_samples, outputs_of, refused_of, played_of, played_told, wrote_of};
 
 use crate::law::{fixed, mean, moving, with_moving};
-use crate::sample::{Fixed, Moving, act, sense};
+use crate::numbers::{Fixed, Moving};
+use crate::sample::{act, sense};
 use record::Loop;
 use refusal::Refusal;
 use temperature::{Bad, raw_after};
@@ -22,9 +23,9 @@ pub struct Played {
 
 // The first n places hold what the law reads, and then its outputs: what moves goes through the loop, and no record.
 fn run(f: Fixed, start: Moving, n: usize, out: &mut [i32]) -> Moving
-    requires { FixedOk f × MovingOk start × (n ≤ length out.old) × (ranged (take n out.old) ≡ true) }
-    ensures value { result ≡ moved_after f start (take n out.old) }
-    ensures out_after { out.new ≡ front_filled (moved_outputs f start (take n out.old)) out.old }
+    requires { (n ≤ length out.old) × (ranged (take n out.old) ≡ true) }
+    ensures value { moving_told result ≡ moved_after (fixed_told f) (moving_told start) (take n out.old) }
+    ensures out_after { out.new ≡ front_filled (moved_outputs (fixed_told f) (moving_told start) (take n out.old)) out.old }
 {
     let mut m = start;
     for place in &mut out[..n] {

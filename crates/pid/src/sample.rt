@@ -5,47 +5,12 @@ ghost use Rattle.whole.specs.Numbers.{Within};
 ghost use Rattle.settings.specs.Table.{reach};
 ghost use Rattle.record.specs.Units.{fine_reach};
 ghost use Rattle.pid.specs.Units.{product, excess_most, rounded};
-ghost use Rattle.pid.specs.Bounds.{FixedOk, MovingOk, SensedOk, RampOk, FilterOk, SlopeOk, ClampOk, BackOk};
+ghost use Rattle.pid.specs.Bounds.{RampOk, FilterOk, SlopeOk, ClampOk, BackOk};
+ghost use Rattle.pid.specs.Told.{fixed_told, moving_told, sensed_told};
 ghost use Rattle.pid.specs.Sample.{ramped, filtered, derivative, sensed_of, share_of, v_of, room_of, clamped, back_calculated, integrated, ordinary_of, acted_of};
 
+use crate::numbers::{Fixed, Moving, Sensed};
 use record::Loop;
-
-// What stays while samples come: the sign s, the limits times F, target, rate, mode, and the gain set in force.
-#[derive(Clone, Copy)]
-pub struct Fixed {
-    pub sign: i64,
-    pub lo: i64,
-    pub hi: i64,
-    pub target: i64,
-    pub rate: i64,
-    pub automatic: bool,
-    pub kp: i64,
-    pub ki: i64,
-    pub kd: i64,
-    pub alpha: i64,
-    pub kt: i64,
-}
-
-// What a sample moves.
-#[derive(Clone, Copy)]
-pub struct Moving {
-    pub w: i64,
-    pub u: i64,
-    pub integral: i64,
-    pub y: i64,
-    pub primed: bool,
-    pub pending: bool,
-}
-
-// What the first half finds: w and y as they become, the error e, P and D.
-#[derive(Clone, Copy)]
-pub struct Sensed {
-    pub w: i64,
-    pub y: i64,
-    pub e: i64,
-    pub p: i64,
-    pub d: i64,
-}
 
 // To the nearest, halves away from zero, without a branch: the shift by 16 is a floor, so halves go up, and the shift by 63
 // is -1 below zero and 0 elsewhere, so that there they go down.
@@ -88,8 +53,8 @@ fn derive(primed: bool, kd: i64, sign: i64, y: i64, after: i64) -> i64
 }
 
 pub fn sense(f: Fixed, m: Moving, pv: i32) -> Sensed
-    requires { FixedOk f × MovingOk m × Within reach pv }
-    ensures { result ≡ sensed_of f m pv }
+    requires { Within reach pv }
+    ensures { sensed_told result ≡ sensed_of (fixed_told f) (moving_told m) pv }
 {
     let x = i64::from(pv);
     let w = ramp(m.w, f.target, f.rate);
@@ -129,32 +94,30 @@ fn back_calculate(integral: i64, g: i64, kt: i64, excess: i64) -> i64
 
 // g
 fn share(f: Fixed, z: Sensed) -> i64
-    requires { FixedOk f × SensedOk z }
-    ensures { result ≡ share_of f z }
+    ensures { result ≡ share_of (fixed_told f) (sensed_told z) }
 {
     f.ki * z.e
 }
 
 // v
 fn sum(f: Fixed, m: Moving, z: Sensed) -> i64
-    requires { FixedOk f × MovingOk m × SensedOk z }
-    ensures { result ≡ v_of f m z }
+    ensures { result ≡ v_of (fixed_told f) (moving_told m) (sensed_told z) }
 {
     z.p + m.integral + share(f, z) + z.d
 }
 
 // What a limit, fine, leaves for the integral.
 fn room(limit: i64, z: Sensed) -> i64
-    requires { Within fine_reach limit × SensedOk z }
-    ensures { result ≡ room_of limit z }
+    requires { Within fine_reach limit }
+    ensures { result ≡ room_of limit (sensed_told z) }
 {
     limit - z.p - z.d
 }
 
 // excess is U - v.
 fn integrate(f: Fixed, m: Moving, z: Sensed, excess: i64) -> i64
-    requires { FixedOk f × MovingOk m × SensedOk z × Within excess_most excess }
-    ensures { result ≡ integrated f m z excess }
+    requires { Within excess_most excess }
+    ensures { result ≡ integrated (fixed_told f) (moving_told m) (sensed_told z) excess }
 {
     let g = share(f, z);
     if 0 < f.kt {
@@ -164,8 +127,7 @@ fn integrate(f: Fixed, m: Moving, z: Sensed, excess: i64) -> i64
 }
 
 fn ordinary(f: Fixed, m: Moving, z: Sensed) -> Moving
-    requires { FixedOk f × MovingOk m × SensedOk z }
-    ensures { result ≡ ordinary_of f m z }
+    ensures { moving_told result ≡ ordinary_of (fixed_told f) (moving_told m) (sensed_told z) }
 {
     let v = sum(f, m, z);
     let at = v.clamp(f.lo, f.hi);
@@ -182,8 +144,7 @@ fn ordinary(f: Fixed, m: Moving, z: Sensed) -> Moving
 }
 
 pub fn act(f: Fixed, m: Moving, z: Sensed) -> Moving
-    requires { FixedOk f × MovingOk m × SensedOk z }
-    ensures { result ≡ acted_of f m z }
+    ensures { moving_told result ≡ acted_of (fixed_told f) (moving_told m) (sensed_told z) }
 {
     if !f.automatic {
         return Moving {

@@ -16,9 +16,9 @@ use Rattle.record.specs.declared.Loop.{Loop}
 use Rattle.record.specs.Units.{F}
 use Rattle.record.specs.Record.{in_b, valid}
 use Rattle.record.proofs.Rules.{holds_of}
-use Rattle.pid.specs.declared.sample.Fixed.{Fixed}
-use Rattle.pid.specs.declared.sample.Moving.{Moving}
-use Rattle.pid.specs.declared.sample.Sensed.{Sensed}
+use Rattle.pid.specs.Numbers.{Fixed}
+use Rattle.pid.specs.Numbers.{Moving}
+use Rattle.pid.specs.Numbers.{Sensed}
 use Rattle.pid.specs.Units.{part, product}
 use Rattle.settings.specs.Table.{reach, in_reach}
 use Rattle.pid.specs.Sample.{sensed_of, share_of, v_of, limited_v}

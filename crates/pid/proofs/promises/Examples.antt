@@ -12,8 +12,8 @@ use Rattle.record.specs.declared.Loop.{Loop}
 use Rattle.record.specs.Units.{F, fine}
 use Rattle.record.specs.Record.{fresh_of, valid}
 use Rattle.record.specs.Refusals.{refusal_of}
-use Rattle.pid.specs.declared.sample.Fixed.{Fixed}
-use Rattle.pid.specs.declared.sample.Moving.{Moving}
+use Rattle.pid.specs.Numbers.{Fixed}
+use Rattle.pid.specs.Numbers.{Moving}
 use Rattle.pid.specs.Units.{rounded}
 use Rattle.settings.specs.Table.{rows_of}
 use Rattle.settings.specs.Settings.{in_table}

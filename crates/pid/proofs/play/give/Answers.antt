@@ -1,3 +1,4 @@
+use Rattle.pid.specs.Told.{moving_told}
 use mathlib.Core.Path.{◌≡◌, ap, sym, ◌∙◌}
 use mathlib.Core.Bool.{true}
 use mathlib.Core.List.{List}
@@ -8,12 +9,9 @@ use mir.Val.{to_z, of_z}
 use mir.Facts.{to_z-of_z}
 use Rattle.temperature.specs.Temperature.{ranged, raw_after}
 use Rattle.window.specs.Means.{front_filled}
-use Rattle.record.proofs.Rules.{holds_of}
 use Rattle.record.proofs.Fit.{loop_fit}
 use Rattle.pid.specs.Law.{fixed_of, moving_of}
 use Rattle.pid.specs.Play.{reads_of, moved_after, moved_outputs}
-use Rattle.pid.proofs.Sound.{fixed_ok, moving_ok}
-use Rattle.pid.proofs.Turns.{all_ok}
 use Rattle.pid.proofs.Shapes.{moving_with}
 use Rattle.pid.proofs.Plays.{after_moved, outputs_moved, reads_ranged}
 use Rattle.pid.proofs.play.give.Goals as goal
@@ -24,7 +22,7 @@ good s = reads_ranged s.args.l s.args.samples.now s.requires.0 s.requires.1
 
 -- what the loop over the means gives, said of the record
 m_is : (c : After-run-m) →
-    c.run-m.result ≡ moved_after (fixed_of c.args.l) (moving_of c.args.l) (reads_of c.args.l c.args.samples.now)
+    moving_told c.run-m.result ≡ moved_after (fixed_of c.args.l) (moving_of c.args.l) (reads_of c.args.l c.args.samples.now)
 m_is c =
     (rw (c.fixed.ensures, c.moving.ensures) at c.run-m.ensures.value)
     ∙ ap (moved_after (fixed_of c.args.l) (moving_of c.args.l)) c.requires.3
@@ -36,15 +34,7 @@ raw_is c =
     to_z-of_z {w = w32} (search rules) ∙ c.raw_after.ensures ∙ ap (λ (x : ℤ). raw_after x c.args.samples.now) (to_z-of_z (loop_fit c.args.l c.well_formed.0).raw)
 
 pub run-m-requires : goal.run-m-requires
-run-m-requires c =
-    let h = holds_of c.args.l c.requires.0 in
-    rw (c.fixed.ensures, c.moving.ensures) (fixed_ok _ h, moving_ok _ h, c.requires.2, ap ranged c.requires.3 ∙ good (goal.at.run-m-requires c).Start)
-
-pub with_moving-requires : goal.with_moving-requires
-with_moving-requires c =
-    let h = holds_of c.args.l c.requires.0 in
-    let m = all_ok _ _ _ (fixed_ok _ h) (moving_ok _ h) (good (goal.at.with_moving-requires c).Start) in
-    rw (m_is (goal.at.with_moving-requires c).After-run-m) (m.w, m.u)
+run-m-requires c = (c.requires.2, ap ranged c.requires.3 ∙ good (goal.at.run-m-requires c).Start)
 
 pub returns-clause-value : goal.returns-clause-value
 returns-clause-value c =

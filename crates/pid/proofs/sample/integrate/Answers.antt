@@ -1,3 +1,4 @@
+use Rattle.pid.proofs.Held.{fixed_good, moving_good, sensed_good}
 use Rattle.whole.proofs.Num.{Num, nums, num_via, stays, same4, test}
 use Rattle.pid.specs.Sample.{integrated, clamped, back_calculated}
 use mathlib.Core.Path.{◌∙◌}
@@ -8,28 +9,28 @@ use Rattle.pid.proofs.sample.integrate.Goals.{After-room, After-room-2, After-sh
 
 abbrev g_num : (c : After-share-g) → Num c.share-g.result
 g_num c =
-    let f = c.requires.0 in
-    let z = c.requires.2 in
+    let f = (fixed_good c.args.f) in
+    let z = (sensed_good c.args.z) in
     num_via c.share-g.ensures (search nums depth 12)
 
 abbrev top_num : (c : After-room) → Num c.room.result
 top_num c =
-    let f = c.requires.0 in
-    let z = c.requires.2 in
+    let f = (fixed_good c.args.f) in
+    let z = (sensed_good c.args.z) in
     num_via c.room.ensures (search nums depth 12)
 
 abbrev bottom_num : (c : After-room-2) → Num c.room-2.result
 bottom_num c =
-    let f = c.requires.0 in
-    let z = c.requires.2 in
+    let f = (fixed_good c.args.f) in
+    let z = (sensed_good c.args.z) in
     num_via c.room-2.ensures (search nums depth 12)
 
 pub back_calculate-requires : goal.back_calculate-requires
 back_calculate-requires c =
-    let f = c.requires.0 in
-    let m = c.requires.1 in
-    let z = c.requires.2 in
-    let x = c.requires.3 in
+    let f = (fixed_good c.args.f) in
+    let m = (moving_good c.args.m) in
+    let z = (sensed_good c.args.z) in
+    let x = c.requires in
     let g = g_num (goal.at.back_calculate-requires c).After-share-g in
     record {
       i_ok = stays (search nums depth 12) tt;
@@ -41,10 +42,10 @@ back_calculate-requires c =
 pub returns-then-f-gt0 : goal.returns-then-f-gt0
 unfolding integrated
 returns-then-f-gt0 c =
-    let f = c.requires.0 in
-    let m = c.requires.1 in
-    let z = c.requires.2 in
-    let x = c.requires.3 in
+    let f = (fixed_good c.args.f) in
+    let m = (moving_good c.args.m) in
+    let z = (sensed_good c.args.z) in
+    let x = c.requires in
     let g = g_num (goal.at.returns-then-f-gt0 c).After-share-g in
     let r = c.back_calculate in
     rw (test c.if-f-gt0.true (search nums depth 12) tt)
@@ -52,10 +53,10 @@ returns-then-f-gt0 c =
 
 pub clamp-requires : goal.clamp-requires
 clamp-requires c =
-    let f = c.requires.0 in
-    let m = c.requires.1 in
-    let z = c.requires.2 in
-    let x = c.requires.3 in
+    let f = (fixed_good c.args.f) in
+    let m = (moving_good c.args.m) in
+    let z = (sensed_good c.args.z) in
+    let x = c.requires in
     let g = g_num (goal.at.clamp-requires c).After-share-g in
     let t = top_num (goal.at.clamp-requires c).After-room in
     let b = bottom_num (goal.at.clamp-requires c).After-room-2 in
@@ -69,10 +70,10 @@ clamp-requires c =
 pub returns : goal.returns
 unfolding integrated
 returns c =
-    let f = c.requires.0 in
-    let m = c.requires.1 in
-    let z = c.requires.2 in
-    let x = c.requires.3 in
+    let f = (fixed_good c.args.f) in
+    let m = (moving_good c.args.m) in
+    let z = (sensed_good c.args.z) in
+    let x = c.requires in
     let g = g_num (goal.at.returns c).After-share-g in
     let t = top_num (goal.at.returns c).After-room in
     let b = bottom_num (goal.at.returns c).After-room-2 in
