@@ -35,11 +35,6 @@ loop-i-init c =
     let t = text_whole a.settings in
     (refl, omega arith, ap length t ∙ sym (zero-add (length (lines_of rows (values_of a.settings)))), ap (sets a.buffer.now 0) t)
 
-pub put_line-at-requires : goal.put_line-at-requires
-put_line-at-requires c =
-    let l = c.loop-i in
-    omega (arith, l.invariant.1)
-
 pub loop-i-preserved : goal.loop-i-preserved
 loop-i-preserved c =
     let l = c.loop-i in
