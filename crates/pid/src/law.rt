@@ -9,7 +9,6 @@ ghost use Rattle.pid.specs.Told.{fixed_told, moving_told};
 ghost use Rattle.pid.specs.Law.{sign_of, fixed_of, moving_of, with_moving, sample_of, step_of, law_of, obeyed_told};
 
 use crate::numbers::{Fixed, Moving};
-use crate::sample::{act, sense};
 use command::Command;
 use record::{After, Loop};
 use refusal::Refusal;
@@ -94,8 +93,8 @@ fn sample(l: Loop, pv: i32) -> Loop
     let window = old.taken(pv);
     let f = fixed(l);
     let m = moving(l);
-    let z = sense(f, m, window.mean(mean(l)));
-    with_moving(l, window, pv, act(f, m, z))
+    let z = f.sense(m, window.mean(mean(l)));
+    with_moving(l, window, pv, f.act(m, z))
 }
 
 fn step(l: Loop, c: Command) -> Loop

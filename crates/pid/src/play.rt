@@ -9,7 +9,6 @@ ghost use Rattle.pid.specs.Play.{moved_after, moved_outputs, reads_of, after_sam
 
 use crate::law::{fixed, mean, moving, with_moving};
 use crate::numbers::{Fixed, Moving};
-use crate::sample::{act, sense};
 use record::Loop;
 use refusal::Refusal;
 use temperature::{Bad, raw_after};
@@ -29,7 +28,7 @@ fn run(f: Fixed, start: Moving, n: usize, out: &mut [i32]) -> Moving
 {
     let mut m = start;
     for place in &mut out[..n] {
-        m = act(f, m, sense(f, m, *place));
+        m = f.act(m, f.sense(m, *place));
         *place = m.u as i32;
     }
     m

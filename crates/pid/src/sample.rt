@@ -52,24 +52,6 @@ fn derive(primed: bool, kd: i64, sign: i64, y: i64, after: i64) -> i64
     0
 }
 
-pub fn sense(f: Fixed, m: Moving, pv: i32) -> Sensed
-    requires { Within reach pv }
-    ensures { sensed_told result ≡ sensed_of (fixed_told f) (moving_told m) pv }
-{
-    let x = i64::from(pv);
-    let w = ramp(m.w, f.target, f.rate);
-    let y = filter(m.primed, m.y, x * Loop::F, f.alpha);
-    let d = derive(m.primed, f.kd, f.sign, m.y, y);
-    let e = f.sign * (w - x);
-    Sensed {
-        w,
-        y,
-        e,
-        p: f.kp * e,
-        d,
-    }
-}
-
 // top and bottom are hi × F - P - D and lo × F - P - D.
 fn clamp(integral: i64, g: i64, top: i64, bottom: i64) -> i64
     requires { ClampOk integral g top bottom }
@@ -92,79 +74,101 @@ fn back_calculate(integral: i64, g: i64, kt: i64, excess: i64) -> i64
     (integral + g + round(kt * excess)).clamp(-Loop::B, Loop::B)
 }
 
-// g
-fn share(f: Fixed, z: Sensed) -> i64
-    ensures { result ≡ share_of (fixed_told f) (sensed_told z) }
-{
-    f.ki * z.e
-}
-
-// v
-fn sum(f: Fixed, m: Moving, z: Sensed) -> i64
-    ensures { result ≡ v_of (fixed_told f) (moving_told m) (sensed_told z) }
-{
-    z.p + m.integral + share(f, z) + z.d
-}
-
-// What a limit, fine, leaves for the integral.
-fn room(limit: i64, z: Sensed) -> i64
-    requires { Within fine_reach limit }
-    ensures { result ≡ room_of limit (sensed_told z) }
-{
-    limit - z.p - z.d
-}
-
-// excess is U - v.
-fn integrate(f: Fixed, m: Moving, z: Sensed, excess: i64) -> i64
-    requires { Within excess_most excess }
-    ensures { result ≡ integrated (fixed_told f) (moving_told m) (sensed_told z) excess }
-{
-    let g = share(f, z);
-    if 0 < f.kt {
-        return back_calculate(m.integral, g, f.kt, excess);
-    }
-    clamp(m.integral, g, room(f.hi, z), room(f.lo, z))
-}
-
-fn ordinary(f: Fixed, m: Moving, z: Sensed) -> Moving
-    ensures { moving_told result ≡ ordinary_of (fixed_told f) (moving_told m) (sensed_told z) }
-{
-    let v = sum(f, m, z);
-    let at = v.clamp(f.lo, f.hi);
-    let u = round(at);
-    let integral = integrate(f, m, z, at - v);
-    Moving {
-        w: z.w,
-        u,
-        integral,
-        y: z.y,
-        primed: true,
-        pending: false,
+impl Sensed {
+    // What a limit, fine, leaves for the integral.
+    fn room(self, limit: i64) -> i64
+        requires { Within fine_reach limit }
+        ensures { result ≡ room_of limit (sensed_told self) }
+    {
+        limit - self.p - self.d
     }
 }
 
-pub fn act(f: Fixed, m: Moving, z: Sensed) -> Moving
-    ensures { moving_told result ≡ acted_of (fixed_told f) (moving_told m) (sensed_told z) }
-{
-    if !f.automatic {
-        return Moving {
+impl Fixed {
+    pub fn sense(self, m: Moving, pv: i32) -> Sensed
+        requires { Within reach pv }
+        ensures { sensed_told result ≡ sensed_of (fixed_told self) (moving_told m) pv }
+    {
+        let x = i64::from(pv);
+        let w = ramp(m.w, self.target, self.rate);
+        let y = filter(m.primed, m.y, x * Loop::F, self.alpha);
+        let d = derive(m.primed, self.kd, self.sign, m.y, y);
+        let e = self.sign * (w - x);
+        Sensed {
+            w,
+            y,
+            e,
+            p: self.kp * e,
+            d,
+        }
+    }
+
+    // g
+    fn share(self, z: Sensed) -> i64
+        ensures { result ≡ share_of (fixed_told self) (sensed_told z) }
+    {
+        self.ki * z.e
+    }
+
+    // v
+    fn sum(self, m: Moving, z: Sensed) -> i64
+        ensures { result ≡ v_of (fixed_told self) (moving_told m) (sensed_told z) }
+    {
+        z.p + m.integral + self.share(z) + z.d
+    }
+
+    // excess is U - v.
+    fn integrate(self, m: Moving, z: Sensed, excess: i64) -> i64
+        requires { Within excess_most excess }
+        ensures { result ≡ integrated (fixed_told self) (moving_told m) (sensed_told z) excess }
+    {
+        let g = self.share(z);
+        if 0 < self.kt {
+            return back_calculate(m.integral, g, self.kt, excess);
+        }
+        clamp(m.integral, g, z.room(self.hi), z.room(self.lo))
+    }
+
+    fn ordinary(self, m: Moving, z: Sensed) -> Moving
+        ensures { moving_told result ≡ ordinary_of (fixed_told self) (moving_told m) (sensed_told z) }
+    {
+        let v = self.sum(m, z);
+        let at = v.clamp(self.lo, self.hi);
+        let u = round(at);
+        let integral = self.integrate(m, z, at - v);
+        Moving {
             w: z.w,
-            u: m.u,
-            integral: m.integral,
-            y: z.y,
-            primed: true,
-            pending: m.pending,
-        };
-    }
-    if m.pending {
-        return Moving {
-            w: z.w,
-            u: m.u,
-            integral: m.u * Loop::F - z.p - z.d,
+            u,
+            integral,
             y: z.y,
             primed: true,
             pending: false,
-        };
+        }
     }
-    ordinary(f, m, z)
+
+    pub fn act(self, m: Moving, z: Sensed) -> Moving
+        ensures { moving_told result ≡ acted_of (fixed_told self) (moving_told m) (sensed_told z) }
+    {
+        if !self.automatic {
+            return Moving {
+                w: z.w,
+                u: m.u,
+                integral: m.integral,
+                y: z.y,
+                primed: true,
+                pending: m.pending,
+            };
+        }
+        if m.pending {
+            return Moving {
+                w: z.w,
+                u: m.u,
+                integral: m.u * Loop::F - z.p - z.d,
+                y: z.y,
+                primed: true,
+                pending: false,
+            };
+        }
+        self.ordinary(m, z)
+    }
 }

@@ -14,22 +14,22 @@ use Rattle.pid.proofs.Shapes.{moving_is}
 use Rattle.whole.proofs.Num.{Num, nums, num_back, num_via, fits, stays, gives}
 use Rattle.pid.specs.Sample.{integrated, ordinary_of}
 use Rattle.pid.proofs.Arithmetic.{calls}
-use Rattle.pid.proofs.sample.ordinary.Goals as goal
-use Rattle.pid.proofs.sample.ordinary.Goals.{After-clamp-at, After-sum-v}
+use Rattle.pid.proofs.numbers.Fixed.ordinary.Goals as goal
+use Rattle.pid.proofs.numbers.Fixed.ordinary.Goals.{After-clamp-at, After-sum-v}
 
 abbrev wide : ℤ → ℤ
 wide x = to_z w64 (of_z w64 x)
 
 abbrev v_num : (c : After-sum-v) → Num c.sum-v.result
 v_num c =
-    let f = (fixed_good c.args.f) in
+    let f = (fixed_good c.args.self) in
     let m = (moving_good c.args.m) in
     let z = (sensed_good c.args.z) in
     num_via c.sum-v.ensures (search nums depth 12)
 
 abbrev at_num : (c : After-clamp-at) → Num c.clamp-at.result
 at_num c =
-    let f = (fixed_good c.args.f) in
+    let f = (fixed_good c.args.self) in
     let m = (moving_good c.args.m) in
     let z = (sensed_good c.args.z) in
     let v : Num c.sum-v.result = num_via c.sum-v.ensures (search nums depth 12) in
@@ -54,7 +54,7 @@ integrate-integral-requires c =
 
 pub invariant_of-result : goal.invariant_of-result
 invariant_of-result c =
-    let f = fixed_good c.args.f in
+    let f = fixed_good c.args.self in
     let m = moving_good c.args.m in
     let z = sensed_good c.args.z in
     let a = at_num (goal.at.invariant_of-result c).After-clamp-at in
@@ -67,8 +67,8 @@ invariant_of-result c =
       w_in = w.within;
       u_in = u.within;
       integral_in =
-          rw (back w64 r.result r.type_inv ∙ r.ensures ∙ ap (integrated (fixed_told c.args.f) (moving_told c.args.m) (sensed_told c.args.z)) (gives (search nums depth 12) tt refl))
-          (new_i_within (fixed_told c.args.f) (moving_told c.args.m) (sensed_told c.args.z) f m z).within;
+          rw (back w64 r.result r.type_inv ∙ r.ensures ∙ ap (integrated (fixed_told c.args.self) (moving_told c.args.m) (sensed_told c.args.z)) (gives (search nums depth 12) tt refl))
+          (new_i_within (fixed_told c.args.self) (moving_told c.args.m) (sensed_told c.args.z) f m z).within;
       y_in = y.within;
     }
 
@@ -82,6 +82,6 @@ returns c =
     moving_is
     (gives (search nums depth 12) tt refl)
     (gives (num_back (num_via c.round-u.ensures (search (nums, calls) depth 20))) tt refl)
-    (back w64 r.result r.type_inv ∙ r.ensures ∙ ap (integrated (fixed_told c.args.f) (moving_told c.args.m) (sensed_told c.args.z)) (gives (search nums depth 12) tt refl))
+    (back w64 r.result r.type_inv ∙ r.ensures ∙ ap (integrated (fixed_told c.args.self) (moving_told c.args.m) (sensed_told c.args.z)) (gives (search nums depth 12) tt refl))
     (gives (search nums depth 12) tt refl)
     refl

@@ -11,15 +11,15 @@ use borrow.Author.Tests.{not-true, not-false}
 use Rattle.whole.proofs.Num.{nums, stays, gives}
 use Rattle.pid.proofs.Samples.{acted_manual, acted_transfer, acted_ordinary}
 use Rattle.pid.proofs.Shapes.{moving_is}
-use Rattle.pid.proofs.sample.act.Goals as goal
+use Rattle.pid.proofs.numbers.Fixed.act.Goals as goal
 
-pub returns-then-not-f : goal.returns-then-not-f
-returns-then-not-f c =
-    let f = (fixed_good c.args.f) in
+pub returns-then-not-self : goal.returns-then-not-self
+returns-then-not-self c =
+    let f = (fixed_good c.args.self) in
     let m = (moving_good c.args.m) in
     let z = (sensed_good c.args.z) in
     moving_is (gives (search nums depth 12) tt refl) (gives (search nums depth 12) tt refl) (gives (search nums depth 12) tt refl) (gives (search nums depth 12) tt refl) refl
-    ∙ sym (acted_manual (fixed_told c.args.f) (moving_told c.args.m) (sensed_told c.args.z) (not-true _ c.if-not-f.true))
+    ∙ sym (acted_manual (fixed_told c.args.self) (moving_told c.args.m) (sensed_told c.args.z) (not-true _ c.if-not-self.true))
 
 abbrev wide : ℤ → ℤ
 wide x = to_z w64 (of_z w64 x)
@@ -36,13 +36,13 @@ invariant_of-result-then-m c =
 
 pub returns-then-m : goal.returns-then-m
 returns-then-m c =
-    let f = (fixed_good c.args.f) in
+    let f = (fixed_good c.args.self) in
     let m = (moving_good c.args.m) in
     let z = (sensed_good c.args.z) in
     moving_is (gives (search nums depth 12) tt refl) (gives (search nums depth 12) tt refl) (gives (search nums depth 20) tt refl) (gives (search nums depth 12) tt refl) refl
-    ∙ sym (acted_transfer (fixed_told c.args.f) (moving_told c.args.m) (sensed_told c.args.z) (not-false _ c.if-not-f.false) c.if-m.true)
+    ∙ sym (acted_transfer (fixed_told c.args.self) (moving_told c.args.m) (sensed_told c.args.z) (not-false _ c.if-not-self.false) c.if-m.true)
 
 pub returns : goal.returns
 returns c =
     c.ordinary.ensures
-    ∙ sym (acted_ordinary (fixed_told c.args.f) (moving_told c.args.m) (sensed_told c.args.z) (not-false _ c.if-not-f.false) c.if-m.false)
+    ∙ sym (acted_ordinary (fixed_told c.args.self) (moving_told c.args.m) (sensed_told c.args.z) (not-false _ c.if-not-self.false) c.if-m.false)

@@ -1,18 +1,18 @@
 use Rattle.pid.proofs.Held.{fixed_good, moving_good, sensed_good}
 use mathlib.Core.Path.{refl}
 use Rattle.whole.proofs.Num.{Num, nums, num_via, fits, gives}
-use Rattle.pid.proofs.sample.sum.Goals as goal
-use Rattle.pid.proofs.sample.sum.Goals.{After-share}
+use Rattle.pid.proofs.numbers.Fixed.sum.Goals as goal
+use Rattle.pid.proofs.numbers.Fixed.sum.Goals.{After-share}
 
 abbrev g_num : (c : After-share) → Num c.share.result
 g_num c =
-    let f = (fixed_good c.args.f) in
+    let f = (fixed_good c.args.self) in
     let z = (sensed_good c.args.z) in
     num_via c.share.ensures (search nums depth 12)
 
 pub overflow_add-result-2 : goal.overflow_add-result-2
 overflow_add-result-2 c =
-    let f = (fixed_good c.args.f) in
+    let f = (fixed_good c.args.self) in
     let m = (moving_good c.args.m) in
     let z = (sensed_good c.args.z) in
     let g = g_num (goal.at.overflow_add-result-2 c).After-share in
@@ -20,7 +20,7 @@ overflow_add-result-2 c =
 
 pub overflow_add-result-3 : goal.overflow_add-result-3
 overflow_add-result-3 c =
-    let f = (fixed_good c.args.f) in
+    let f = (fixed_good c.args.self) in
     let m = (moving_good c.args.m) in
     let z = (sensed_good c.args.z) in
     let g = g_num (goal.at.overflow_add-result-3 c).After-share in
@@ -28,7 +28,7 @@ overflow_add-result-3 c =
 
 pub returns : goal.returns
 returns c =
-    let f = (fixed_good c.args.f) in
+    let f = (fixed_good c.args.self) in
     let m = (moving_good c.args.m) in
     let z = (sensed_good c.args.z) in
     let g = g_num (goal.at.returns c).After-share in
