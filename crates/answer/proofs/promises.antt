@@ -1,2 +1,3 @@
 -- The theorems of a line.
 pub mod Verdict
+pub mod Told

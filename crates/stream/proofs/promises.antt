@@ -3,3 +3,4 @@ pub mod Cut
 pub mod Lines
 pub mod Valid
 pub mod Examples
+pub mod Told

@@ -24,7 +24,7 @@ impl Part {
     pub const MOST: usize = 80;
 
     // Nothing has come yet.
-    pub fn none() -> Part
+    pub(crate) fn none() -> Part
         ensures { result ≡ [] }
     {
         Part {
@@ -33,20 +33,20 @@ impl Part {
         }
     }
 
-    pub fn is_empty(&self) -> bool
+    pub(crate) fn is_empty(&self) -> bool
         ensures { result ≡ eqb (length self.now) 0 }
     {
         self.len == 0
     }
 
-    pub fn as_slice(&self) -> &[u8]
+    pub(crate) fn as_slice(&self) -> &[u8]
         ensures { result.now ≡ self.now }
     {
         &self.bytes[..self.len]
     }
 
     // Whether these bytes have no room after it.
-    pub fn lacks_room(&self, more: &[u8]) -> bool
+    pub(crate) fn lacks_room(&self, more: &[u8]) -> bool
         ensures { result ≡ ltb line_most (length self.now + length more.now) }
     {
         Part::MOST - self.len < more.len()
