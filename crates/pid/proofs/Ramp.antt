@@ -1,10 +1,9 @@
 -- The way of w to its target: each sample takes the rate off the distance, until nothing is left.
-use Prim.Native.Nat.{ℕ, suc, ◌+◌, ◌*◌, ◌-◌, ◌<◌, ◌≤◌}
+use Prim.Native.Nat.{ℕ, suc, ◌*◌, ◌-◌, ◌<◌, ◌≤◌}
 use mathlib.Core.Path.{◌≡◌, refl, sym, ◌∙◌}
 use mathlib.Core.Bool.{true}
 use mathlib.Core.List.{List, [], ◌∷◌}
 use native.Mathlib.Omega.{arith}
-use native.Mathlib.Nat.{div-add-mod', mod-lt, mul-le-mul_right}
 use lib.Dec.{eqb}
 use lib.IntN.{ℤ, pos, ◌+ℤ◌, ◌-ℤ◌}
 use lib.Signed.{lt_z, ◌≤ℤ◌}
@@ -14,13 +13,14 @@ use Rattle.whole.proofs.Parts.{zs, no_minus, no_plus, inside_yes}
 use Rattle.whole.proofs.Lin.{Lin, at, lins}
 use Rattle.command.specs.declared.Command.{Command}
 use Rattle.command.specs.declared.Command.TheVariants.{Sample, Hold, Put, Automatic, Target, Set}
+use Rattle.record.proofs.Ceiling.{enough, short}
 use Rattle.record.specs.declared.Loop.{Loop}
 use Rattle.record.specs.Record.{valid}
 use Rattle.record.proofs.Rules.{holds_of}
 use Rattle.pid.specs.Sample.{lesser, ramped, sensed_of, acted_of}
 use Rattle.pid.specs.Law.{sample_of, step_of}
 use Rattle.command.specs.Sequence.{after}
-use Rattle.pid.specs.Run.{obeyed, no_target, samples, distance, ceiling, samples_to_target}
+use Rattle.pid.specs.Run.{obeyed, no_target, samples, distance, samples_to_target}
 
 -- one sample
 pub ramped_left : (w t r : ℤ) → pos 0 ≤ℤ r → size (t -ℤ ramped w t r) ≡ size (t -ℤ w) - plus r
@@ -119,14 +119,6 @@ no_distance t w e =
     let p = no_plus (t -ℤ w) (omega (arith, zs)) in
     let m = no_minus (t -ℤ w) (omega (arith, zs)) in
     omega arith
-
-enough : (d r n : ℕ) → 1 ≤ r → ceiling d r ≤ n → d ≤ n * r
-enough d r n h k = omega (arith, div-add-mod' (d + (r - 1)) r, mod-lt (d + (r - 1)) {m = r} (omega arith), mul-le-mul_right r k)
-
-short : (d r n : ℕ) → 1 ≤ r → n < ceiling d r → n * r < d
-short d r n h k =
-    let k' : suc n ≤ ceiling d r = omega arith in
-    omega (arith, div-add-mod' (d + (r - 1)) r, mul-le-mul_right r k')
 
 pub ceiling_reaches : (l : Loop) (cs : List Command) → valid l ≡ true → no_target cs ≡ true → samples_to_target l ≤ samples cs →
     (obeyed l cs).w ≡ l.target

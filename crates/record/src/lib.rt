@@ -15,6 +15,8 @@ mod commands;
 mod refusals;
 mod remaining;
 
+// The flags, the gain set's number and the settings' action are no enums: the state rules and the settings' table speak of records
+// in which they fit neither each other nor a range.
 #[derive(Clone, Copy)]
 pub struct Loop {
     pub settings: Settings,

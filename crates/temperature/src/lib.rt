@@ -40,6 +40,7 @@ impl Guard {
         (-Settings::REACH..=Settings::REACH).contains(&self.raw) & (self.primed | (self.raw == 0))
     }
 
+    // Asked once a sample, so without a branch.
     fn jumps(self, pv: i32) -> bool
         ensures { result ≡ jumps self pv }
     {
