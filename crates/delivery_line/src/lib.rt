@@ -38,7 +38,7 @@ fn same_word(key: &[u8], word: &[u8]) -> bool
     word == key
 }
 
-// "unused values 0"
+// "unused values 0". Tests and no match: a match on byte strings comes to a goal for each byte of each.
 fn command(word: &[u8], value: i32, second: i32) -> Option<Command>
     ensures { result ≡ command_of word.now value second }
 {

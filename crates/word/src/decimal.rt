@@ -44,7 +44,8 @@ fn negated(n: u64) -> i32
     -(n as i64) as i32
 }
 
-// A decimal of at most so many digits, within 32 bits.
+// A decimal of at most so many digits, within 32 bits. They are an argument of this one reader, and no const parameter of a public
+// one, which each caller would owe to be at most ten.
 pub(crate) fn signed_of(word: &[u8], most: usize) -> Option<i32>
     requires { most ≤ long_digits }
     ensures { result ≡ signed_of most word.now }
