@@ -95,7 +95,7 @@ invariant_of-result c =
     let sign = (fixed_good c.args.self).sign in
     let kp = (fixed_good c.args.self).kp in
     let kd = (fixed_good c.args.self).kd in
-    let m = (moving_good c.args.m).y in
+    let m = moving_good c.args.m in
     let p = c.requires in
     let x = x_num (goal.at.invariant_of-result c).After-from-x in
     let w = w_num (goal.at.invariant_of-result c).After-ramp-w in
@@ -114,7 +114,7 @@ invariant_of-result c =
           rw (back w64 r.result r.type_inv ∙ r.ensures
           ∙ same4 (derivative c.args.m.primed) (search nums depth 12) (search nums depth 12) (search nums depth 12) (search nums depth 12) tt)
           (derivative_within c.args.m.primed c.args.self.kd c.args.self.sign c.args.m.y (new_y (fixed_told c.args.self) (moving_told c.args.m) c.args.pv)
-          (record { kd_ok = kd; sign_ok = sign; y_ok = m; after_ok = filtered_within c.args.m.primed _ _ _ m (stays (search nums depth 12) tt) (omega (arith, zs, (fixed_good c.args.self).follows)) (fixed_good c.args.self).alpha })).within;
+          (record { kd_ok = kd; sign_ok = sign; y_ok = m.y; after_ok = filtered_within c.args.m.primed _ _ _ m.y (stays (search nums depth 12) tt) (omega (arith, zs, (fixed_good c.args.self).follows)) (fixed_good c.args.self).alpha })).within;
     }
 
 pub returns : goal.returns
@@ -123,7 +123,7 @@ returns c =
     let sign = (fixed_good c.args.self).sign in
     let kp = (fixed_good c.args.self).kp in
     let kd = (fixed_good c.args.self).kd in
-    let m = (moving_good c.args.m).y in
+    let m = moving_good c.args.m in
     let p = c.requires in
     let x = x_num (goal.at.returns c).After-from-x in
     let w = w_num (goal.at.returns c).After-ramp-w in
