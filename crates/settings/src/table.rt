@@ -9,10 +9,10 @@ use word::buffer::{put, put_decimal};
 // A settings key, how many bytes it has, and the least and the most of the value.
 #[derive(Clone, Copy)]
 pub struct Row {
-    key: [u8; Row::LONGEST],
-    len: usize,
-    least: i32,
-    most: i32,
+    pub key: [u8; Row::LONGEST],
+    pub len: usize,
+    pub least: i32,
+    pub most: i32,
 }
 
 // "The ranges of the settings are one constant table of rows, which reader, writer and maker all consult": a key, and the least and

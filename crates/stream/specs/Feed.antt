@@ -2,16 +2,16 @@
 use Rattle.std.specs.Prelude.{ℕ, ◌+◌, ◌/◌, ◌≤◌, ◌≡◌, Bool, true, false, cond, not, ◌&&◌, ◌||◌, List, [], ◌∷◌, ◌++◌, eqb, ltb, leb, length, take, drop, Result, Ok, Err}
 use Rattle.word.specs.End.{feed}
 use Rattle.answer.specs.Judge.{judged_by}
-use Rattle.stream.specs.Part.{line_most}
+use Rattle.stream.specs.Part.{line_most, with_more}
 use Rattle.stream.specs.declared.run.Run.{Run}
 use Rattle.stream.specs.declared.run.Told.{Told}
-use Rattle.stream.specs.Run.{Step, line_room, refusing, line_step, with_part, keeping}
+use Rattle.stream.specs.Run.{Step, line_room, refusing, word_of, line_step, with_part, keeping}
 
 -- ---- one byte
 
 -- a line feed ends the line under way
 unfoldable pub judging : Run → Step
-judging r = cond (ltb line_most (length r.part)) (refusing r 14) (line_step r (judged_by r.lines r.state r.part))
+judging r = cond (ltb line_most r.part.len) (refusing r 14) (line_step r (judged_by r.lines r.state (word_of r)))
 
 -- nothing, where the run has ended
 abbrev pub idle : Run → Step
@@ -42,20 +42,20 @@ plain (b ∷ w) = not (eqb b feed) && plain w
 
 -- the line under way with more bytes of it
 abbrev pub grown_of : Run → List ℕ → Run
-grown_of r w = with_part r (r.part ++ w)
+grown_of r w = with_part r (with_more r.part w)
 
 -- the next bytes of a line, and its line feed where that has come
 unfoldable pub line_of : Run → List ℕ → Bool → Step
 line_of r w fed =
     cond r.ended (idle r)
-    (cond (ltb line_most (length r.part + length w)) (refusing r 14)
-    (cond fed (line_step r (judged_by r.lines r.state (r.part ++ w))) (idle (grown_of r w))))
+    (cond (ltb line_most (r.part.len + length w)) (refusing r 14)
+    (cond fed (line_step r (judged_by r.lines r.state (word_of (grown_of r w)))) (idle (grown_of r w))))
 
 -- ---- the end of the file
 
 -- "a last one without its line feed, is 14"
 unfoldable pub finishing : Run → Step
-finishing r = cond (r.ended || eqb (length r.part) 0) (idle r) (refusing r 14)
+finishing r = cond (r.ended || eqb r.part.len 0) (idle r) (refusing r 14)
 
 -- ---- in a lent buffer, which has room or else nothing is done
 

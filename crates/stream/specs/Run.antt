@@ -1,12 +1,13 @@
 -- What is carried from one piece of a file to the next, and what both programs do with a line.
-use Rattle.std.specs.Prelude.{ℕ, ◌+◌, ◌≤◌, ◌≡◌, true, cond, List, [], ◌∷◌, ◌++◌, eqb, ltb, length}
+use Rattle.std.specs.Prelude.{ℕ, ◌+◌, ◌≤◌, ◌≡◌, true, cond, List, [], ◌++◌, eqb, ltb, length}
 use Rattle.std.proofs.lemmas.List.Edits.{sets}
 use Rattle.delivery.specs.declared.numbered.Numbered.{Numbered}
 use Rattle.word.specs.Decimal.{shown}
 use Rattle.word.specs.Number.{highest}
 use Rattle.whole.specs.Words.{bytes}
 use Rattle.answer.specs.Verdict.{Verdict}
-use Rattle.stream.specs.Part.{line_most}
+use Rattle.stream.specs.declared.part.Part.{Part}
+use Rattle.stream.specs.Part.{line_most, no_part, held, with_byte}
 use Rattle.stream.specs.declared.run.Run.{Run}
 use Rattle.stream.specs.declared.run.Told.{Told}
 
@@ -43,7 +44,7 @@ abbrev pub over_of : Run → Run
 over_of r = record {
   ended = true;
   lines = r.lines;
-  part = [];
+  part = no_part;
   line = r.line;
   state = r.state;
 }
@@ -54,6 +55,10 @@ refusing r code = record { run = over_of r; text = refused_line code r.line }
 
 -- ---- the line under way
 
+-- its bytes
+abbrev pub word_of : Run → List ℕ
+word_of r = held r.part
+
 -- the line after a line. One past 4,294,967,295 keeps that number
 abbrev pub following : ℕ → ℕ
 following line = cond (ltb line highest) (line + 1) line
@@ -63,7 +68,7 @@ abbrev pub next_of : Run → Numbered → Run
 next_of r l = record {
   ended = r.ended;
   lines = r.lines;
-  part = [];
+  part = no_part;
   line = following r.line;
   state = l;
 }
@@ -73,7 +78,7 @@ abbrev pub line_step : Run → Verdict → Step
 line_step r v = cond (eqb v.code 0) (record { run = next_of r v.state; text = v.text }) (refusing r v.code)
 
 -- with these bytes of a line
-abbrev pub with_part : Run → List ℕ → Run
+abbrev pub with_part : Run → Part → Run
 with_part r part = record {
   ended = r.ended;
   lines = r.lines;
@@ -83,8 +88,8 @@ with_part r part = record {
 }
 
 abbrev pub kept_of : Run → ℕ → Run
-kept_of r b = with_part r (r.part ++ b ∷ [])
+kept_of r b = with_part r (with_byte r.part b)
 
 -- a byte of the line under way; one past the room makes a line longer than any well-formed one: "malformed [..] is 14"
 unfoldable pub keeping : Run → ℕ → Step
-keeping r b = cond (ltb (length r.part) line_most) (record { run = kept_of r b; text = [] }) (refusing r 14)
+keeping r b = cond (ltb r.part.len line_most) (record { run = kept_of r b; text = [] }) (refusing r 14)

@@ -7,6 +7,7 @@ use Rattle.delivery.specs.Numbered.{blank_of, made_of, delivered_of}
 use Rattle.text.specs.Reader.{Reading, read_text}
 use Rattle.answer.specs.declared.judge.Lines.{Lines}
 use Rattle.answer.specs.declared.judge.Lines.TheVariants.{Samples, Deliveries}
+use Rattle.stream.specs.Part.{no_part}
 use Rattle.stream.specs.declared.run.Run.{Run}
 use Rattle.stream.specs.declared.run.Told.{Told}
 use Rattle.stream.specs.Run.{Step, line_room, over_of, refusing}
@@ -22,7 +23,7 @@ abbrev pub start_of : Lines → ℕ → Numbered → Run
 start_of lines line l = record {
   ended = false;
   lines = lines;
-  part = [];
+  part = no_part;
   line = line;
   state = l;
 }

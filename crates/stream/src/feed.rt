@@ -1,15 +1,13 @@
 // A file in pieces, line by line.
-ghost use Rattle.std.specs.Prelude.{◌≡◌, ◌+◌, ◌*◌, ◌≤◌, ◌++◌, length};
+ghost use Rattle.std.specs.Prelude.{◌≡◌, ◌+◌, ◌*◌, ◌≤◌, length};
 ghost use Rattle.stream.specs.Part.{line_most};
 ghost use Rattle.answer.specs.Judge.{judged_by};
-ghost use Rattle.stream.specs.Run.{line_room, line_step, Tells};
+ghost use Rattle.stream.specs.Run.{line_room, word_of, line_step, Tells};
 ghost use Rattle.stream.specs.Feed.{grown_of, line_of, passing, fed_of, out_fed, finished_of, out_finished, Counts, ran_told};
 
-use crate::part::Part;
 use crate::run::{Run, Told};
 use answer::judge::judge;
 use refusal::Refusal;
-use std::mem;
 use word::end::end_at;
 
 impl Run {
@@ -29,7 +27,7 @@ impl Run {
 
     // The line under way with more bytes of it.
     fn grown(mut self, more: &[u8]) -> Run
-        requires { length self.part + length more.now ≤ line_most }
+        requires { self.part.len + length more.now ≤ line_most }
         ensures { result ≡ grown_of self more.now }
     {
         self.part.push(more);
@@ -38,14 +36,14 @@ impl Run {
 
     // A line whose last bytes these are. One that lies whole in the piece is judged where it stands; one that began in an
     // earlier piece is joined with what was carried of it.
-    fn line(mut self, more: &[u8], out: &mut [u8]) -> Told
-        requires { length self.part + length more.now ≤ line_most }
-        ensures { Tells line_room (line_step self (judged_by self.lines self.state (self.part ++ more.now))) out.old result out.new }
+    fn line(self, more: &[u8], out: &mut [u8]) -> Told
+        requires { self.part.len + length more.now ≤ line_most }
+        ensures { Tells line_room (line_step self (judged_by self.lines self.state (word_of (grown_of self more.now)))) out.old result out.new }
     {
         if self.part.is_empty() {
             return self.judge(more, out);
         }
-        let mut joined = mem::replace(&mut self.part, Part::none());
+        let mut joined = self.part;
         joined.push(more);
         self.judge(joined.as_slice(), out)
     }
@@ -69,6 +67,7 @@ impl Run {
         }
     }
 
+    // A piece of the file, line by line: no index runs over it, and the line feed's place is where each turn cuts.
     fn pass(self, piece: &[u8], out: &mut [u8]) -> Told
         requires { length piece.now * line_room ≤ length out.old }
         ensures { Tells (length piece.now * line_room) (passing self piece.now) out.old result out.new }

@@ -1,22 +1,14 @@
 // The bytes that have come of a line.
-ghost use Rattle.std.specs.Prelude.{◌≡◌, ◌+◌, ◌≤◌, ℕ, List, [], ◌++◌, eqb, ltb, length, take};
-ghost use Rattle.stream.specs.Part.{line_most};
+ghost use Rattle.std.specs.Prelude.{◌≡◌, ◌+◌, ◌≤◌, eqb, ltb, length};
+ghost use Rattle.stream.specs.Part.{line_most, no_part, held, with_more};
 
-use std::marker::Model;
 use word::buffer::put;
 
-#[derive(Drop)]
+// The first len of the bytes have come.
+#[derive(Clone, Copy)]
 pub struct Part {
-    bytes: [u8; Part::MOST],
-    len: usize,
-}
-
-impl Model for Part {
-    ghost Value = { List ℕ };
-
-    ghost view = { λ p. take p.len p.bytes };
-
-    ghost invariant = { λ p. p.len ≤ line_most };
+    pub bytes: [u8; Part::MOST],
+    pub len: usize,
 }
 
 impl Part {
@@ -25,7 +17,7 @@ impl Part {
 
     // Nothing has come yet.
     pub(crate) fn none() -> Part
-        ensures { result ≡ [] }
+        ensures { result ≡ no_part }
     {
         Part {
             bytes: [0; Part::MOST],
@@ -34,28 +26,28 @@ impl Part {
     }
 
     pub(crate) fn is_empty(&self) -> bool
-        ensures { result ≡ eqb (length self.now) 0 }
+        ensures { result ≡ eqb self.now.len 0 }
     {
         self.len == 0
     }
 
     pub(crate) fn as_slice(&self) -> &[u8]
-        ensures { result.now ≡ self.now }
+        ensures { result.now ≡ held self.now }
     {
-        &self.bytes[..self.len]
+        &self.bytes[..self.len.min(Part::MOST)]
     }
 
     // Whether these bytes have no room after it.
     pub(crate) fn lacks_room(&self, more: &[u8]) -> bool
-        ensures { result ≡ ltb line_most (length self.now + length more.now) }
+        ensures { result ≡ ltb line_most (self.now.len + length more.now) }
     {
-        Part::MOST - self.len < more.len()
+        Part::MOST < self.len || Part::MOST - self.len < more.len()
     }
 
     // More bytes come.
     pub(crate) fn push(&mut self, more: &[u8])
-        requires { length self.old + length more.now ≤ line_most }
-        ensures { self.new ≡ self.old ++ more.now }
+        requires { self.old.len + length more.now ≤ line_most }
+        ensures { self.new ≡ with_more self.old more.now }
     {
         put(&mut self.bytes, self.len, more);
         self.len += more.len();

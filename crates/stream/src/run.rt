@@ -12,7 +12,7 @@ use word::buffer::{put, put_decimal};
 
 // A run that is under way: what has come of the line under way, and its number in the file. Once ended, nothing more
 // is written.
-#[derive(Drop)]
+#[derive(Clone, Copy)]
 pub struct Run {
     pub ended: bool,
     pub lines: Lines,
@@ -27,7 +27,7 @@ impl Run {
 }
 
 // What a step leaves, and how many bytes from the lent buffer's first on are to be written.
-#[derive(Drop)]
+#[derive(Clone, Copy)]
 pub struct Told {
     pub run: Run,
     pub len: usize,

@@ -5,9 +5,9 @@ use mathlib.Core.Path.{◌≡◌, refl, sym, ap, ap₂, ◌∙◌}
 use mathlib.Core.Bool.{Bool, true, false, cond, ◌&&◌, ◌||◌}
 use mathlib.Core.List.{List, [], ◌∷◌, ◌++◌, append-nil, append_assoc}
 use native.Mathlib.Omega.{arith}
-use borrow.Author.Tests.{ltb-true, ne_eqb, eq-eqb}
+use borrow.Author.Tests.{ltb-true, ltb-false, ne_eqb, eq-eqb}
 use lib.Dec.{eqb, ltb}
-use lib.ListN.{length, length-append, length-drop}
+use lib.ListN.{length, length-drop}
 use Rattle.whole.proofs.Truth.{both, by_test, chosen, cond_yes, cond_no}
 use Rattle.delivery.specs.declared.numbered.Numbered.{Numbered}
 use Rattle.delivery.specs.Numbered.{blank_of}
@@ -27,7 +27,7 @@ use Rattle.stream.specs.Run.{Step, refused_line, over_of, following, next_of, li
 use Rattle.stream.specs.Feed.{after, written, plain, grown_of, line_of, finishing}
 use Rattle.stream.specs.Start.{first_loop, start_of, begun_by, run_over, output_of}
 use Rattle.stream.proofs.promises.Cut.{cut_after, cut_written}
-use Rattle.stream.proofs.Line.{over_passing, part_passing, line_passing}
+use Rattle.stream.proofs.Line.{over_passing, grown_word, part_passing, line_passing}
 
 -- ---- the file, line by line
 
@@ -62,7 +62,8 @@ told lines l n (w ∷ ws) rest = told_by n (λ (m : Numbered). told lines m (fol
 -- a run at the start of a line
 pub record Ready (r : Run) : Type 0 where
   pub going : r.ended ≡ false
-  pub none : r.part ≡ []
+  pub none : r.part.len ≡ 0
+  pub room : length r.part.bytes ≡ line_most
 
 -- what is written where the file ends after a step
 closing : Step → List ℕ
@@ -77,40 +78,40 @@ run_cut r a b =
 -- a run that has ended
 finish_over : (r : Run) → r.ended ≡ true → (finishing r).text ≡ []
 unfolding finishing
-finish_over r e = ap (λ (t : Step). t.text) (cond_yes _ _ (ap (λ (b : Bool). b || eqb (length r.part) 0) e))
+finish_over r e = ap (λ (t : Step). t.text) (cond_yes _ _ (ap (λ (b : Bool). b || eqb r.part.len 0) e))
 
 over_quiet : (r : Run) (s : List ℕ) → r.ended ≡ true → run_over r s ≡ []
 unfolding closing
 over_quiet r s e = ap closing (over_passing r s e) ∙ finish_over r e
 
 -- a rest without its line feed
-finish_open : (r : Run) → r.ended ≡ false → (length r.part ≡ 0 → ⊥) → (finishing r).text ≡ refused_line 14 r.line
+finish_open : (r : Run) → r.ended ≡ false → (r.part.len ≡ 0 → ⊥) → (finishing r).text ≡ refused_line 14 r.line
 unfolding finishing
-finish_open r e h = ap (λ (t : Step). t.text) (cond_no _ _ (ap (λ (b : Bool). b || eqb (length r.part) 0) e ∙ ne_eqb (length r.part) 0 h))
+finish_open r e h = ap (λ (t : Step). t.text) (cond_no _ _ (ap (λ (b : Bool). b || eqb r.part.len 0) e ∙ ne_eqb r.part.len 0 h))
 
 rest_told_lem : (r : Run) (rest : List ℕ) → Ready r → plain rest ≡ true → run_over r rest ≡ rest_told r.line rest
 unfolding finishing closing line_of
-rest_told_lem r [] g p = ap (λ (t : Step). t.text) (cond_yes _ _ (ap₂ ◌||◌ g.going (eq-eqb (length r.part) 0 (ap length g.none))))
+rest_told_lem r [] g p = ap (λ (t : Step). t.text) (cond_yes _ _ (ap₂ ◌||◌ g.going (eq-eqb r.part.len 0 g.none)))
 rest_told_lem r (b ∷ w) g p =
     ap closing (part_passing r (b ∷ w) p (omega arith) ∙ cond_no _ _ g.going)
-    ∙ chosen (λ (t : Step). closing t ≡ refused_line 14 r.line) (ltb line_most (length r.part + length (b ∷ w)))
+    ∙ chosen (λ (t : Step). closing t ≡ refused_line 14 r.line) (ltb line_most (r.part.len + length (b ∷ w)))
     (λ _. append-nil (refused_line 14 r.line))
-    (λ _. finish_open (grown_of r (b ∷ w)) g.going (λ q. omega (arith, q, length-append r.part (b ∷ w))))
+    (λ _. finish_open (grown_of r (b ∷ w)) g.going (λ q. omega (arith, q)))
 
 -- a line with its line feed
 ready_line : (r : Run) (w : List ℕ) → Ready r → line_of r w true ≡ line_step r (judged_line r.lines r.state w)
 unfolding line_of
 ready_line r w g =
-    let n : length r.part + length w ≡ length w = omega (arith, ap length g.none) in
+    let n : r.part.len + length w ≡ length w = omega (arith, g.none) in
     cond_no _ _ g.going
     ∙ by_test (ltb line_most (length w))
     (λ t. cond_yes _ _ (ap (ltb line_most) n ∙ t) ∙ sym (ap (line_step r) (cond_yes _ _ t)))
     (λ t. cond_no _ _ (ap (ltb line_most) n ∙ t)
-    ∙ ap (λ (x : List ℕ). line_step r (judged_by r.lines r.state x)) (ap (λ (x : List ℕ). x ++ w) g.none)
+    ∙ ap (λ (x : List ℕ). line_step r (judged_by r.lines r.state x)) (grown_word r w g.none g.room (ltb-false line_most (length w) t))
     ∙ sym (ap (line_step r) (cond_no _ _ t)))
 
 next_ready : (r : Run) (l : Numbered) → Ready r → Ready (next_of r l)
-next_ready r l g = record { going = g.going; none = refl }
+next_ready r l g = record { going = g.going; none = refl; room = refl }
 
 module _ (rest : List ℕ) (p : plain rest ≡ true) where
   -- what a judged line leads to, where the lines after it are told as next says
@@ -158,7 +159,7 @@ unfolding output_of begun_by
 output_told lines settings ws rest e q p =
     let d = read_text settings in
     ap (λ (x : Step). x.text ++ run_over x.run (file_of ws rest)) (cond_yes _ _ (eq-eqb d.code 0 e))
-    ∙ lines_told rest p (start_of lines 1 (first_loop lines d.settings)) ws (record { going = refl; none = refl }) q
+    ∙ lines_told rest p (start_of lines 1 (first_loop lines d.settings)) ws (record { going = refl; none = refl; room = refl }) q
 
 -- ---- a sample line of more than 80 bytes is no decimal: for 01's program the bound decides nothing
 

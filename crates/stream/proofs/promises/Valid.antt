@@ -5,7 +5,6 @@ use mathlib.Core.Bool.{true}
 use mathlib.Core.List.{List, [], ◌∷◌}
 use borrow.Author.Tests.{eq-eqb}
 use lib.Dec.{eqb, ltb}
-use lib.ListN.{length}
 use Rattle.whole.proofs.Truth.{chosen, cond_yes}
 use Rattle.settings.specs.declared.Settings.{Settings}
 use Rattle.settings.specs.Settings.{settings_refusal}
@@ -21,7 +20,7 @@ use Rattle.answer.specs.Judge.{judged_by}
 use Rattle.answer.proofs.promises.Verdict.{judged_valid}
 use Rattle.stream.specs.declared.run.Run.{Run}
 use Rattle.stream.specs.Part.{line_most}
-use Rattle.stream.specs.Run.{Step, keeping}
+use Rattle.stream.specs.Run.{Step, word_of, keeping}
 use Rattle.stream.specs.Feed.{judging, byte_of, after}
 use Rattle.stream.specs.Start.{first_loop, begun_by, beginning}
 use Rattle.stream.proofs.Starts.{text_right}
@@ -33,15 +32,15 @@ module _ (r : Run) (v : valid_of r.state ≡ true) where
   judging_good : Good (judging r)
   unfolding judging
   judging_good =
-      let j = judged_by r.lines r.state r.part in
-      chosen Good (ltb line_most (length r.part)) (λ _. v)
-      (λ _. chosen Good (eqb j.code 0) (λ _. judged_valid r.lines r.state v r.part) (λ _. v))
+      let j = judged_by r.lines r.state (word_of r) in
+      chosen Good (ltb line_most r.part.len) (λ _. v)
+      (λ _. chosen Good (eqb j.code 0) (λ _. judged_valid r.lines r.state v (word_of r)) (λ _. v))
 
   pub byte_valid : (b : ℕ) → valid_of (byte_of r b).run.state ≡ true
   unfolding byte_of keeping
   byte_valid b =
       chosen Good r.ended (λ _. v)
-      (λ _. chosen Good (eqb b feed) (λ _. judging_good) (λ _. chosen Good (ltb (length r.part) line_most) (λ _. v) (λ _. v)))
+      (λ _. chosen Good (eqb b feed) (λ _. judging_good) (λ _. chosen Good (ltb r.part.len line_most) (λ _. v) (λ _. v)))
 
 made_right : (s : Settings) → settings_refusal s ≡ 0 → (made_of s).code ≡ 0
 unfolding made_of

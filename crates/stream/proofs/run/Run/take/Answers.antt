@@ -11,7 +11,7 @@ use Rattle.stream.proofs.run.Run.take.Goals as goal
 use Rattle.stream.proofs.run.Run.take.Goals.{Else-lacks_room}
 
 -- past the test there is room
-short : (c : Else-lacks_room) → ltb line_most (length c.args.self.part + length c.args.more.now) ≡ false
+short : (c : Else-lacks_room) → ltb line_most (c.args.self.part.len + length c.args.more.now) ≡ false
 short c = so c.lacks_room.ensures c.if-lacks_room.false
 
 pub returns-then-self : goal.returns-then-self
