@@ -4,5 +4,9 @@
 use answer::judge::Lines;
 
 fn main(rt: HostRuntime) {
-    files::run(&rt, Lines::Deliveries, b"usage: journal SETTINGS DELIVERIES\n");
+    files::run(
+        &rt,
+        Lines::Deliveries,
+        b"usage: journal SETTINGS DELIVERIES\n",
+    );
 }
