@@ -1,12 +1,11 @@
 // 01's program: each line of the file is a sample.
 ghost use Rattle.std.specs.Prelude.{Ok};
-ghost use Rattle.delivery.specs.Numbered.{delivered_told};
 ghost use Rattle.answer.specs.Verdict.{answered, judged_told, Judges};
-ghost use Rattle.answer.specs.Oven.{output_line, by_answer, by_sample, sample_line};
+ghost use Rattle.answer.specs.Oven.{output_line, sample_line};
 
 use crate::verdict::Answered;
 use command::Command;
-use delivery::numbered::{Delivered, Numbered};
+use delivery::numbered::Numbered;
 use refusal::Refusal;
 use word::buffer::{put, put_decimal};
 use word::decimal::read_decimal;
@@ -23,32 +22,18 @@ fn answer(state: Numbered, output: i32, out: &mut [u8]) -> Answered
     }
 }
 
-// An accepted sample is answered, a refused one ends the run.
-fn tell(told: Delivered, out: &mut [u8]) -> Result<Answered, Refusal>
-    ensures { Judges 0 (by_answer (delivered_told told)) out.old (judged_told told.state result) out.new }
+// A whole line, its line feed left out. An accepted sample is answered, a refused one ends the run.
+pub(crate) fn sample_line(state: Numbered, line: &[u8], out: &mut [u8]) -> Result<Answered, Refusal>
+    ensures { Judges 0 (sample_line state line.now) out.old (judged_told state result) out.new }
 {
-    match told.outcome {
-        Ok(()) => Ok(answer(told.state, told.output, out)),
-        Err(refusal) => Err(refusal),
-    }
-}
-
-fn sample(state: Numbered, pv: i32, out: &mut [u8]) -> Result<Answered, Refusal>
-    ensures { Judges 0 (by_sample state pv) out.old (judged_told state result) out.new }
-{
+    let Some(pv) = read_decimal(line) else {
+        return Err(Refusal::WrongForm);
+    };
     let last = state.memory.number;
     if last == u32::MAX {
         return Err(Refusal::ManySamples);
     }
-    tell(state.deliver(last + 1, Command::Sample(pv)), out)
-}
-
-// A whole line, its line feed left out.
-pub(crate) fn sample_line(state: Numbered, line: &[u8], out: &mut [u8]) -> Result<Answered, Refusal>
-    ensures { Judges 0 (sample_line state line.now) out.old (judged_told state result) out.new }
-{
-    match read_decimal(line) {
-        None => Err(Refusal::WrongForm),
-        Some(pv) => sample(state, pv, out),
-    }
+    let told = state.deliver(last + 1, Command::Sample(pv));
+    told.outcome?;
+    Ok(answer(told.state, told.output, out))
 }

@@ -42,8 +42,14 @@ module _ (s : Numbered) (n : ℕ) (c : Command) where
       (λ z. rw (refuses s.state c v (eqb-false _ 0 z), v, z, ne_eqb (refusal_of s.state c) 10 (never_ten s.state c))))
       (λ v. rw (breaks s.state c v, v))
 
-  pub tried : (o : Obeyed) → o ≡ law_of s.state c → made_by s n c o ≡ tried_of s n c
+  tried : (o : Obeyed) → o ≡ law_of s.state c → made_by s n c o ≡ tried_of s n c
   tried o e = ap (made_by s n c) e ∙ made
+
+  pub tried_kept : (o : Obeyed) → o ≡ law_of s.state c → o.code ≡ 0 → answer_of 0 (kept_of s o.state n c) ≡ tried_of s n c
+  tried_kept o e z = rw z at (tried o e)
+
+  pub tried_refused : (o : Obeyed) → o ≡ law_of s.state c → (o.code ≡ 0 → ⊥) → refused_as o.code s ≡ tried_of s n c
+  tried_refused o e h = rw (ne_eqb o.code 0 h) at (tried o e)
 
   pub broken_memory : memory_ok s ≡ false → broken_of s ≡ delivered_of s n c
   unfolding delivered_of

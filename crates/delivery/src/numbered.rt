@@ -1,7 +1,7 @@
 // 01's record as the queue sees it: a loop and what it remembers of its deliveries. Making one, its state rules, a delivery.
 ghost use Rattle.std.specs.Prelude.{◌≡◌};
 ghost use Rattle.refusal.specs.Refusal.{code_for, code_in};
-ghost use Rattle.delivery.specs.Numbered.{new_of, made_told, made_of, blank_of, memory_ok, valid_of, delivered_told, answer_of, broken_of, refused_as, repeat_of, kept_of, settled_of, tried_of, delivered_of};
+ghost use Rattle.delivery.specs.Numbered.{new_of, made_told, made_of, blank_of, memory_ok, valid_of, delivered_told, refused_as, repeat_of, settled_of, tried_of, delivered_of};
 
 use command::Command;
 use memory::{Entry, Found, Memory};
@@ -69,67 +69,44 @@ impl Numbered {
     }
 
     fn answer(self, outcome: Result<(), Refusal>) -> Delivered
-        ensures { delivered_told result ≡ answer_of (code_in outcome) self }
+        ensures { delivered_told result ≡ refused_as (code_in outcome) self }
     {
+        let (output, number) = match outcome {
+            Err(Refusal::BrokenRecord) => (0, 0),
+            _ => (self.state.u, self.memory.number),
+        };
         Delivered {
             outcome,
-            output: self.state.u,
-            number: self.memory.number,
+            output,
+            number,
             state: self,
-        }
-    }
-
-    fn broken(self) -> Delivered
-        ensures { delivered_told result ≡ broken_of self }
-    {
-        Delivered {
-            outcome: Err(Refusal::BrokenRecord),
-            output: 0,
-            number: 0,
-            state: self,
-        }
-    }
-
-    // What the law refuses.
-    fn refuse(self, refusal: Refusal) -> Delivered
-        ensures { delivered_told result ≡ refused_as (code_for refusal) self }
-    {
-        match refusal {
-            Refusal::BrokenRecord => self.broken(),
-            _ => self.answer(Err(refusal)),
-        }
-    }
-
-    // The record with the loop that a command kept under a number has left.
-    fn keep(self, state: Loop, number: u32, c: Command) -> Numbered
-        ensures { result ≡ kept_of self state number c }
-    {
-        Numbered {
-            state,
-            memory: self.memory.remember(number, c, state.u),
         }
     }
 
     // What the number alone refuses comes after 10.
     fn settle(self, refusal: Refusal) -> Delivered
-        ensures { delivered_told result ≡ settled_of self (answer_of (code_for refusal) self) }
+        ensures { delivered_told result ≡ settled_of self (refused_as (code_for refusal) self) }
     {
-        if self.state.is_valid() {
-            return self.answer(Err(refusal));
-        }
-        self.broken()
+        let first = if self.state.is_valid() {
+            refusal
+        } else {
+            Refusal::BrokenRecord
+        };
+        self.answer(Err(first))
     }
 
     // A repeat "gets its first answer again: code 0, that output and its own number".
     fn again(self, number: u32, e: Entry) -> Delivered
         ensures { delivered_told result ≡ settled_of self (repeat_of number e self) }
     {
-        if !self.state.is_valid() {
-            return self.broken();
-        }
+        let (outcome, output, number) = if self.state.is_valid() {
+            (Ok(()), e.output, number)
+        } else {
+            (Err(Refusal::BrokenRecord), 0, 0)
+        };
         Delivered {
-            outcome: Ok(()),
-            output: e.output,
+            outcome,
+            output,
             number,
             state: self,
         }
@@ -139,11 +116,12 @@ impl Numbered {
     fn attempt(self, number: u32, c: Command) -> Delivered
         ensures { delivered_told result ≡ tried_of self number c }
     {
-        let tried = obey(self.state, c);
-        match tried.outcome {
-            Ok(()) => self.keep(tried.state, number, c).answer(Ok(())),
-            Err(refusal) => self.refuse(refusal),
-        }
+        let After { outcome, state } = obey(self.state, c);
+        let memory = match outcome {
+            Ok(()) => self.memory.remember(number, c, state.u),
+            Err(_) => self.memory,
+        };
+        Numbered { state, memory }.answer(outcome)
     }
 
     // One delivery: "10; then 1, 2, 3; then content". Every path tests each state rule once.
@@ -151,7 +129,7 @@ impl Numbered {
         ensures { delivered_told result ≡ delivered_of self number c }
     {
         if !self.remembers() {
-            return self.broken();
+            return self.answer(Err(Refusal::BrokenRecord));
         }
         match self.memory.find(number, c) {
             Found::Old => self.settle(Refusal::Old),

@@ -3,15 +3,14 @@ use Rattle.whole.proofs.Truth.{so}
 use Rattle.memory.proofs.Fit.{entry_fit}
 use Rattle.delivery.specs.Numbered.{settled_of}
 use Rattle.delivery.proofs.numbered.Numbered.again.Goals as goal
-
-pub returns-then-not-is_valid : goal.returns-then-not-is_valid
-unfolding settled_of
-returns-then-not-is_valid c =
-    let v = c.is_valid in
-    rw (so v.ensures c.if-not-is_valid.true) c.broken.ensures
+use Rattle.delivery.proofs.numbered.Numbered.again.Goals.{then-is_valid, else-is_valid}
 
 pub returns : goal.returns
 unfolding settled_of
 returns c =
     let v = c.is_valid in
-    rw (so v.ensures c.if-not-is_valid.false, to_z-of_z (entry_fit c.args.e c.well_formed.1.1.0))
+    let u = to_z-of_z (entry_fit c.args.e c.well_formed.1.1.0) in
+    elim c.if-is_valid.branch [
+      | then-is_valid w ↦ rw (so v.ensures w.if-is_valid.true, w.outcome-is, u, u)
+      | else-is_valid w ↦ rw (so v.ensures w.if-is_valid.false, w.outcome-is)
+    ]

@@ -7,7 +7,7 @@ use Rattle.delivery.proofs.numbered.Numbered.deliver.Goals as goal
 
 pub returns-then-not-remembers : goal.returns-then-not-remembers
 returns-then-not-remembers c =
-    c.broken.ensures ∙ broken_memory c.args.self c.args.number c.args.c (so c.remembers.ensures c.if-not-remembers.true)
+    c.answer.ensures ∙ broken_memory c.args.self c.args.number c.args.c (so c.remembers.ensures c.if-not-remembers.true)
 
 pub returns-in-Old : goal.returns-in-Old
 unfolding settled_of served_of

@@ -1,11 +1,12 @@
 use Rattle.whole.proofs.Truth.{so}
 use Rattle.delivery.specs.Numbered.{settled_of}
 use Rattle.delivery.proofs.numbered.Numbered.settle.Goals as goal
-
-pub returns-then-is_valid : goal.returns-then-is_valid
-unfolding settled_of
-returns-then-is_valid c = rw (so c.is_valid.ensures c.if-is_valid.true) c.answer.ensures
+use Rattle.delivery.proofs.numbered.Numbered.settle.Goals.{then-is_valid, else-is_valid}
 
 pub returns : goal.returns
 unfolding settled_of
-returns c = rw (so c.is_valid.ensures c.if-is_valid.false) c.broken.ensures
+returns c =
+    elim c.if-is_valid.branch [
+      | then-is_valid w ↦ rw (so c.is_valid.ensures w.if-is_valid.true) (rw w.first-is at c.answer.ensures)
+      | else-is_valid w ↦ rw (so c.is_valid.ensures w.if-is_valid.false) (rw w.first-is at c.answer.ensures)
+    ]
