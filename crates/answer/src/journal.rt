@@ -8,10 +8,10 @@ ghost use Rattle.answer.specs.Journal.{answer_text, journal_answer, journal_line
 use crate::verdict::Answered;
 use delivery::numbered::{Delivered, Numbered};
 use delivery_line::parse;
-use refusal::{Refusal, code};
+use refusal::Refusal;
 use word::buffer::{put, put_decimal};
 
-// ` code=C output=U last=L` and a line feed, from place at on; the place after it.
+// ` code=C output=U last=L` and a line feed, from place at on; the place after it. The text has the code as a number.
 fn put_answer(out: &mut [u8], at: usize, code: u8, output: i32, last: u32) -> usize
     requires { at < 2 ^ 63 }
     ensures value { (result ≡ at + length (answer_text code output last)) × (result ≤ at + answer_room) }
@@ -32,7 +32,7 @@ fn reply(line: &[u8], told: Delivered, out: &mut [u8]) -> Answered
     ensures { Judges (length line.now) (journal_answer line.now (delivered_told told)) out.old (judged_told told.state (Ok result)) out.new }
 {
     put(out, 0, line);
-    let code = code(told.outcome);
+    let code = refusal::code(told.outcome);
     let len = put_answer(out, line.len(), code, told.output, told.number);
     Answered {
         state: told.state,

@@ -15,7 +15,7 @@ pub enum Command {
 }
 
 impl Command {
-    // "same command with same values"
+    // "same command with same values": the equality that its contract names.
     pub fn same(self, other: Command) -> bool
         ensures { result ≡ same self other }
     {

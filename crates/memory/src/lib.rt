@@ -16,7 +16,8 @@ pub struct Entry {
     pub output: i32,
 }
 
-// "last number (32 bits unsigned)", and "the last 32 kept commands", newest first: place i has the last number less i.
+// "last number (32 bits unsigned)", and "the last 32 kept commands", newest first: place i has the last number less i,
+// so that the number tells which places are used.
 #[derive(Clone, Copy)]
 pub struct Memory {
     pub number: u32,
@@ -43,7 +44,7 @@ impl Entry {
         }
     }
 
-    // A place that is used has a command and an output within lo..hi, any other is blank.
+    // A place that is used has a command and an output within lo..hi, any other is blank; a flag, as the definition has it.
     fn fits(self, used: bool, lo: i32, hi: i32) -> bool
         ensures { result ≡ entry_ok used lo hi self }
     {

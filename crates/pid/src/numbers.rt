@@ -5,7 +5,7 @@ ghost use Rattle.settings.specs.Table.{reach, fastest, gain, share};
 ghost use Rattle.record.specs.Units.{B, fine_reach};
 ghost use Rattle.pid.specs.Units.{part};
 
-// What stays while samples come: the sign s, the limits times F, target, rate, mode, and the gain set in force.
+// What stays while samples come: the sign s, the limits times F, target, rate, mode, and the gain set in force. Flags are the record's.
 #[derive(Clone, Copy)]
 pub struct Fixed {
     pub sign: i64,
@@ -34,7 +34,7 @@ pub struct Fixed {
     ghost kt_in: { size kt ≤ share },
 }
 
-// What a sample moves.
+// What a sample moves. Flags are the record's.
 #[derive(Clone, Copy)]
 pub struct Moving {
     pub w: i64,

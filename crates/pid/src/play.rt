@@ -13,7 +13,7 @@ use record::Loop;
 use refusal::Refusal;
 use temperature::{Bad, raw_after};
 
-// What became of a list of samples, and the loop after them. A refusal that is no sample's stands at place 0.
+// What became of a list of samples, and the loop after them. It is no After<Loop>: its error has a place.
 #[derive(Clone, Copy)]
 pub struct Played {
     pub outcome: Result<(), Bad>,
@@ -43,7 +43,7 @@ fn refused(l: Loop, bad: Bad) -> Played
     }
 }
 
-// Of no sample.
+// A refusal that is of no sample: its place is 0.
 fn stopped(l: Loop, refusal: Refusal) -> Played
     ensures { played_told result ≡ refused_of l (code_for refusal) 0 }
 {

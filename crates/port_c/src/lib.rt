@@ -4,7 +4,7 @@
 ghost use Rattle.std.specs.Prelude.{◌≡◌, length};
 ghost use Rattle.port.specs.Port.{code_of, place_of, out_of, late_code, late_output, late_number, late_out};
 
-// The code of a replay from that loop; the place where a sample is refused is written through `place`.
+// The code of a replay, as `port` has it; the place where a sample is refused is written through `place`.
 #[unsafe(no_mangle)]
 pub extern "C" fn port_replay(
     values: &[i32],
@@ -26,7 +26,7 @@ pub extern "C" fn port_replay(
     )
 }
 
-// The code of that sample; its answer's output and number are written through `output` and `told`.
+// The code of a sample after a replay, as `port` has it; its answer's output and number are written through `output` and `told`.
 #[unsafe(no_mangle)]
 pub extern "C" fn port_late(
     values: &[i32],

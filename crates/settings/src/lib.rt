@@ -19,6 +19,7 @@ pub struct Gains {
     pub kt: i32,
 }
 
+// Numbers, whatever they are: action is no enum, since code 11 answers for one that is neither 0 nor 1.
 #[derive(Clone, Copy)]
 pub struct Settings {
     pub action: i32,

@@ -17,7 +17,7 @@ pub struct Row {
 
 // "The ranges of the settings are one constant table of rows, which reader, writer and maker all consult": a key, and the least and
 // the most of its value. The first have their `=`. The last five stand in each gain set: its number and the `=` are put after
-// their letters.
+// their letters. In a constant nothing can be called, so WINDOW is cast.
 const KINDS: [(&[u8], i32, i32); Settings::HEAD + Settings::KEYS] = [
     (b"action=", 0, 1),
     (b"lo=", -Settings::REACH, Settings::REACH),
@@ -53,7 +53,7 @@ impl Row {
         }
     }
 
-    // Row j of a table.
+    // Row j of a table, any table: its contract is of the list.
     fn nth(kinds: &[(&[u8], i32, i32)], j: usize) -> Row
         requires { j < length kinds.now }
         ensures { result ≡ row_at kinds.now j }
@@ -105,7 +105,7 @@ impl Row {
         }
     }
 
-    // The bytes of the key, with its `=`.
+    // The bytes of the key, with its `=`. A line's `Part` has the like: one type for both would have a public push, which asks for room.
     pub fn key(&self) -> &[u8]
         ensures { result.now ≡ key_of self.now }
     {
@@ -116,7 +116,7 @@ impl Row {
     pub fn holds(self, x: i32) -> bool
         ensures { result ≡ in_row self x }
     {
-        (self.least <= x) & (x <= self.most)
+        (self.least..=self.most).contains(&x)
     }
 
     // Whether each of these values lies within the range of its row, where the first row is row `from` of the constant table.

@@ -1,5 +1,5 @@
 -- How a run starts: from a settings text.
-use Rattle.std.specs.Prelude.{ℕ, false, cond, List, [], ◌++◌, true, eqb, leb, length, Option, Some, None}
+use Rattle.std.specs.Prelude.{ℕ, false, cond, List, [], ◌++◌, eqb, leb, length}
 use Rattle.settings.specs.declared.Settings.{Settings}
 use Rattle.command.specs.declared.Command.TheVariants.{Automatic}
 use Rattle.delivery.specs.declared.numbered.Numbered.{Numbered}
@@ -9,7 +9,6 @@ use Rattle.answer.specs.declared.judge.Lines.{Lines}
 use Rattle.answer.specs.declared.judge.Lines.TheVariants.{Samples, Deliveries}
 use Rattle.stream.specs.Part.{no_part}
 use Rattle.stream.specs.declared.run.Run.{Run}
-use Rattle.stream.specs.declared.run.Told.{Told}
 use Rattle.stream.specs.Run.{Step, line_room, over_of, refusing}
 use Rattle.stream.specs.Feed.{after, written, finishing, Ran, ran_of, out_of}
 
@@ -41,11 +40,6 @@ beginning lines settings = begun_by lines (read_text settings)
 -- a run that was never begun
 abbrev pub no_run : Lines → Run
 no_run lines = over_of (start_of lines 0 blank_of)
-
--- what the program answers
-abbrev pub begun_told : Lines → Option Told → Ran
-begun_told lines (Some t) = record { done = true; run = t.run; len = t.len }
-begun_told lines None = record { done = false; run = no_run lines; len = 0 }
 
 abbrev pub begin_of : Lines → List ℕ → ℕ → Ran
 begin_of lines settings n = ran_of (leb line_room n) (no_run lines) (beginning lines settings)

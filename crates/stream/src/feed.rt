@@ -48,7 +48,7 @@ impl Run {
         self.judge(joined.as_slice(), out)
     }
 
-    // The next bytes of a line, up to its line feed where that has come.
+    // The next bytes of a line, up to its line feed where that has come: `fed`, as the definition has it.
     fn take(self, more: &[u8], fed: bool, out: &mut [u8]) -> Told
         ensures { Tells line_room (line_of self more.now fed) out.old result out.new }
     {

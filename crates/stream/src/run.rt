@@ -10,8 +10,8 @@ use delivery::numbered::Numbered;
 use refusal::Refusal;
 use word::buffer::{put, put_decimal};
 
-// A run that is under way: what has come of the line under way, and its number in the file. Once ended, nothing more
-// is written.
+// A run that is under way: what has come of the line under way, and its number in the file. Once ended, nothing more is written; it
+// is a flag, since a caller reads the line and the state of a run that has ended too.
 #[derive(Clone, Copy)]
 pub struct Run {
     pub ended: bool,
@@ -26,14 +26,14 @@ impl Run {
     pub const ROOM: usize = 128;
 }
 
-// What a step leaves, and how many bytes from the lent buffer's first on are to be written.
+// What a step leaves, and how many bytes from the lent buffer's first on are to be written: the buffer is the caller's.
 #[derive(Clone, Copy)]
 pub struct Told {
     pub run: Run,
     pub len: usize,
 }
 
-// "it writes `refused`, the code and the line, one space between, and a line feed"
+// "it writes `refused`, the code and the line, one space between, and a line feed". The code is a number, as the text has it.
 fn put_refused(out: &mut [u8], code: u8, line: u32) -> usize
     ensures value { (result ≡ length (refused_line code line)) × (result ≤ line_room) }
     ensures out_after { out.new ≡ sets out.old 0 (refused_line code line) }

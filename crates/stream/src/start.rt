@@ -3,8 +3,8 @@ ghost use Rattle.std.specs.Prelude.{◌≡◌, ◌+◌, ◌≤◌, length};
 ghost use Rattle.settings.specs.Table.{lines as settings_lines};
 ghost use Rattle.text.specs.Reader.{reading_told};
 ghost use Rattle.stream.specs.Run.{line_room, Tells};
-ghost use Rattle.stream.specs.Feed.{Counts};
-ghost use Rattle.stream.specs.Start.{start_of, first_loop, begun_by, begin_of, out_begun, begun_told};
+ghost use Rattle.stream.specs.Feed.{Counts, ran_told};
+ghost use Rattle.stream.specs.Start.{start_of, first_loop, begun_by, begin_of, out_begun};
 
 use crate::part::Part;
 use crate::run::{Run, Told};
@@ -55,14 +55,14 @@ fn begun(lines: Lines, read: Reading, out: &mut [u8]) -> Told
     }
 }
 
-// A run from the settings text, over a file of samples or of deliveries; nothing where the buffer has no room.
-pub fn begin(lines: Lines, settings: &[u8], out: &mut [u8]) -> Option<Told>
-    ensures value { begun_told lines result ≡ begin_of lines settings.now (length out.old) }
+// A run from the settings text, over a file of samples or of deliveries; one that has ended where the buffer has no room.
+pub fn begin(lines: Lines, settings: &[u8], out: &mut [u8]) -> Result<Told, Run>
+    ensures value { ran_told result ≡ begin_of lines settings.now (length out.old) }
     ensures out_after { out.new ≡ out_begun lines settings.now out.old }
-    ensures counts { Counts (begun_told lines result).len out.new }
+    ensures counts { Counts (ran_told result).len out.new }
 {
     if out.len() < Run::ROOM {
-        return None;
+        return Err(Run::start(lines, 0, Numbered::blank()).over());
     }
-    Some(begun(lines, read_settings(settings), out))
+    Ok(begun(lines, read_settings(settings), out))
 }

@@ -9,7 +9,7 @@ use refusal::Refusal;
 use settings::Settings;
 
 // What a sample is held against: the loop's mode, whether there was a sample before, how far from that it may be, and "the last
-// kept raw temperature".
+// kept raw temperature". The flags are the record's, whose state rules speak of every pair.
 #[derive(Clone, Copy)]
 pub struct Guard {
     pub automatic: bool,

@@ -11,7 +11,7 @@ pub fn plus(x: i32) -> usize
     usize::try_from(x).unwrap_or(0)
 }
 
-// How large x is, its sign left aside.
+// How large x is, its sign left aside. A size fits 64 bits, and there is no From between u64 and usize.
 pub fn size(x: i64) -> usize
     ensures { result ≡ size x }
 {

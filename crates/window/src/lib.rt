@@ -12,14 +12,14 @@ use settings::Settings;
 
 pub mod means;
 
-// "kept in a window of 128 places", newest first, and how many temperatures are seen.
+// "kept in a window of 128 places", newest first, and how many temperatures are seen: the state rule is of both.
 #[derive(Clone, Copy)]
 pub struct Window {
     pub places: [i32; Settings::WINDOW],
     pub seen: usize,
 }
 
-// A temperature that is seen lies in range, and a place that is not filled is zero.
+// A temperature that is seen lies in range, and a place that is not filled is zero; a flag, as the definition has it.
 fn place_ok(filled: bool, x: i32) -> bool
     ensures { result ≡ place_ok filled x }
 {
@@ -46,7 +46,7 @@ pub(crate) fn mean_of(sum: i64, n: usize) -> i32
     }
 }
 
-// The sum of the first n places.
+// The sum of the first n places. Widened by `as`: the search that no sum wraps does not look into the result of `i64::from`.
 pub(crate) fn sum_of(places: &[i32; Settings::WINDOW], n: usize) -> i64
     requires { (n ≤ window) × Bits places.now }
     ensures { result ≡ sum_of (take n places.now) }

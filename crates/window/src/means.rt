@@ -30,7 +30,7 @@ fn past(places: &[i32; Settings::WINDOW], samples: &[i32], n: usize, j: usize) -
     places[j - n]
 }
 
-// The sum runs: sample i comes, and where `most` of them are counted the oldest leaves, which is one of those before the samples.
+// The sum runs, widened by `as` as in `sum_of`: sample i comes, and where `most` of them are counted the oldest leaves, which is one of those before the samples.
 fn next(
     s: Summed,
     most: usize,

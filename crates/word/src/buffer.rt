@@ -4,7 +4,7 @@ ghost use Rattle.std.proofs.lemmas.List.Edits.{sets};
 
 use crate::decimal::{Decimal, Shown};
 
-// Puts bytes from place at on, as far as the buffer goes.
+// Puts bytes from place at on, as far as the buffer goes. The place stands beside the buffer, since one equation says it of any place.
 pub fn put(buffer: &mut [u8], at: usize, bytes: &[u8])
     ensures { buffer.new ≡ sets buffer.old at bytes.now }
 {

@@ -36,7 +36,7 @@ pub(crate) fn size_of(word: &[u8], most: usize) -> Option<u64>
     Some(n)
 }
 
-// The number that so many below zero is.
+// The number that so many below zero is; both casts fit.
 fn negated(n: u64) -> i32
     requires { (0 < n) × (n ≤ lowest) }
     ensures { result ≡ neg_ℤ (pos n) }
@@ -102,6 +102,7 @@ impl Decimal for u32 {
         let mut from = Shown::LAST;
         bytes[from] = b'0' + (self % 10) as u8;
         let mut left = self / 10;
+        // It divides, and counts nothing.
         while 0 < left {
             from -= 1;
             bytes[from] = b'0' + (left % 10) as u8;

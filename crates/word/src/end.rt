@@ -2,7 +2,7 @@
 ghost use Rattle.std.specs.Prelude.{◌≡◌};
 ghost use Rattle.word.specs.End.{end_at};
 
-// The place of the first such byte, or the length where there is none.
+// The place of the first such byte, or the length where there is none, as the definition has it.
 pub fn end_at(rest: &[u8], byte: u8) -> usize
     ensures { result ≡ end_at byte rest.now }
 {

@@ -1,13 +1,11 @@
 -- What a run tells leaves nothing of it out.
 use Prim.Native.Nat.{ℕ}
-use mathlib.Core.Path.{◌≡◌, refl, sym, ap, ap₂}
-use Rattle.std.proofs.Common.{Result, Ok, Err, Option, Some, None}
+use mathlib.Core.Path.{◌≡◌, sym, ap, ap₂}
+use Rattle.std.proofs.Common.{Result, Ok, Err}
 use Rattle.whole.proofs.Truth.{never}
-use Rattle.answer.specs.declared.judge.Lines.{Lines}
 use Rattle.stream.specs.declared.run.Run.{Run}
 use Rattle.stream.specs.declared.run.Told.{Told}
 use Rattle.stream.specs.Feed.{Ran, ran_told}
-use Rattle.stream.specs.Start.{begun_told}
 
 same : (t u : Told) → t.run ≡ u.run → t.len ≡ u.len → t ≡ u
 same t u r n = ap₂ (λ (x : Run) (k : ℕ). record { run = x; len = k }) r n
@@ -17,9 +15,3 @@ ran_once (Ok t) (Ok u) e = ap Ok (same t u (ap (λ (r : Ran). r.run) e) (ap (λ 
 ran_once (Ok t) (Err r) e = never (sym (ap (λ (r : Ran). r.done) e))
 ran_once (Err r) (Ok u) e = never (ap (λ (r : Ran). r.done) e)
 ran_once (Err r) (Err q) e = ap Err (ap (λ (r : Ran). r.run) e)
-
-pub begun_once : (lines : Lines) (a b : Option Told) → begun_told lines a ≡ begun_told lines b → a ≡ b
-begun_once lines (Some t) (Some u) e = ap Some (same t u (ap (λ (r : Ran). r.run) e) (ap (λ (r : Ran). r.len) e))
-begun_once lines (Some t) None e = never (sym (ap (λ (r : Ran). r.done) e))
-begun_once lines None (Some u) e = never (ap (λ (r : Ran). r.done) e)
-begun_once lines None None e = refl
