@@ -18,13 +18,13 @@ fn put_answer(out: &mut [u8], at: usize, code: u8, output: i32, last: u32) -> us
     ensures out_after { out.new ≡ sets out.old at (answer_text code output last) }
 {
     put(out, at, b" code=");
-    let a = at + 6 + put_decimal(out, at + 6, code as u32);
-    put(out, a, b" output=");
-    let b = a + 8 + put_decimal(out, a + 8, output);
-    put(out, b, b" last=");
-    let d = b + 6 + put_decimal(out, b + 6, last);
-    put(out, d, b"\n");
-    d + 1
+    let code_end = at + 6 + put_decimal(out, at + 6, code as u32);
+    put(out, code_end, b" output=");
+    let output_end = code_end + 8 + put_decimal(out, code_end + 8, output);
+    put(out, output_end, b" last=");
+    let last_end = output_end + 6 + put_decimal(out, output_end + 6, last);
+    put(out, last_end, b"\n");
+    last_end + 1
 }
 
 // The line itself, grown by the answer.

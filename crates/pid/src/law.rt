@@ -25,9 +25,7 @@ fn gains(l: Loop) -> Gains
     requires { l.set < sets }
     ensures { result ≡ gains_at l.settings.gains l.set }
 {
-    let all = l.settings.gains;
-    let k = l.set;
-    all[k]
+    l.settings.gains[l.set]
 }
 
 pub(crate) fn fixed(l: Loop) -> Fixed
@@ -89,8 +87,7 @@ fn sample(l: Loop, pv: i32) -> Loop
     requires { (valid l ≡ true) × (in_reach pv ≡ true) }
     ensures { result ≡ sample_of l pv }
 {
-    let old = l.window;
-    let window = old.taken(pv);
+    let window = l.window.taken(pv);
     let f = fixed(l);
     let m = moving(l);
     let z = f.sense(m, window.mean(mean(l)));

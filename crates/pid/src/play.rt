@@ -57,8 +57,7 @@ fn give(l: Loop, samples: &[i32], out: &mut [i32]) -> Loop
     ensures out_after { out.new ≡ front_filled (outputs_of l samples.now) out.old }
 {
     let m = run(fixed(l), moving(l), samples.len(), out);
-    let window = l.window;
-    with_moving(l, window.after(samples), raw_after(l.raw, samples), m)
+    with_moving(l, l.window.after(samples), raw_after(l.raw, samples), m)
 }
 
 // 10, then 12, then 4 or 19 with the place of the earliest bad sample; else every sample is given once.
@@ -72,8 +71,7 @@ pub fn play(l: Loop, samples: &[i32], out: &mut [i32]) -> Played
     if out.len() < samples.len() {
         return stopped(l, Refusal::ShortOutputs);
     }
-    let window = l.window;
-    if let Err(bad) = window.means(mean(l), l.guard(), samples, out) {
+    if let Err(bad) = l.window.means(mean(l), l.guard(), samples, out) {
         return refused(l, bad);
     }
     Played {

@@ -23,13 +23,11 @@ impl Loop {
     pub fn start(mut self) -> Loop
         ensures { result ≡ automatic_of self }
     {
-        if self.automatic {
-            self
-        } else {
+        if !self.automatic {
             self.automatic = true;
             self.pending = true;
-            self
         }
+        self
     }
 
     pub fn aim(mut self, t: i32, r: i32) -> Loop
@@ -43,12 +41,10 @@ impl Loop {
     pub fn choose(mut self, k: usize) -> Loop
         ensures { result ≡ set_of self k }
     {
-        if self.set == k {
-            self
-        } else {
+        if self.set != k {
             self.set = k;
-            self.pending = self.pending | self.automatic;
-            self
+            self.pending |= self.automatic;
         }
+        self
     }
 }

@@ -145,15 +145,12 @@ impl Loop {
     pub fn is_valid(self) -> bool
         ensures { result ≡ valid self }
     {
-        let s = self.settings;
-        let w = self.window;
-        let g = self.guard();
-        s.in_table()
-            & s.is_ordered()
+        self.settings.in_table()
+            & self.settings.is_ordered()
             & self.places_ok()
             & self.fine_ok()
             & self.pending_ok()
-            & w.is_valid()
-            & g.is_valid()
+            & self.window.is_valid()
+            & self.guard().is_valid()
     }
 }

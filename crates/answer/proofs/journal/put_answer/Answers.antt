@@ -32,26 +32,26 @@ few_2 c = rw (told c).0 (decimal_room_lem c.args.output c.ranges.output)
 few_3 : (c : After-put_decimal-3) → c.put_decimal-3.result ≤ 10
 few_3 c = rw c.put_decimal-3.ensures.value (shown_room c.args.last c.ranges.last.fits)
 
-pub overflow_add-a-2 : goal.overflow_add-a-2
-overflow_add-a-2 c = let x = few (goal.at.overflow_add-a-2 c).After-put_decimal in omega arith
+pub overflow_add-code_end-2 : goal.overflow_add-code_end-2
+overflow_add-code_end-2 c = let x = few (goal.at.overflow_add-code_end-2 c).After-put_decimal in omega arith
 
-pub overflow_add-b : goal.overflow_add-b
-overflow_add-b c = let x = few (goal.at.overflow_add-b c).After-put_decimal in omega arith
+pub overflow_add-output_end : goal.overflow_add-output_end
+overflow_add-output_end c = let x = few (goal.at.overflow_add-output_end c).After-put_decimal in omega arith
 
-pub overflow_add-a-3 : goal.overflow_add-a-3
-overflow_add-a-3 c = let x = few (goal.at.overflow_add-a-3 c).After-put_decimal in omega arith
+pub overflow_add-code_end-3 : goal.overflow_add-code_end-3
+overflow_add-code_end-3 c = let x = few (goal.at.overflow_add-code_end-3 c).After-put_decimal in omega arith
 
-pub overflow_add-b-2 : goal.overflow_add-b-2
-overflow_add-b-2 c = let x = few (goal.at.overflow_add-b-2 c).After-put_decimal in let y = few_2 (goal.at.overflow_add-b-2 c).After-put_decimal-2 in omega arith
+pub overflow_add-output_end-2 : goal.overflow_add-output_end-2
+overflow_add-output_end-2 c = let x = few (goal.at.overflow_add-output_end-2 c).After-put_decimal in let y = few_2 (goal.at.overflow_add-output_end-2 c).After-put_decimal-2 in omega arith
 
-pub overflow_add-d : goal.overflow_add-d
-overflow_add-d c = let x = few (goal.at.overflow_add-d c).After-put_decimal in let y = few_2 (goal.at.overflow_add-d c).After-put_decimal-2 in omega arith
+pub overflow_add-last_end : goal.overflow_add-last_end
+overflow_add-last_end c = let x = few (goal.at.overflow_add-last_end c).After-put_decimal in let y = few_2 (goal.at.overflow_add-last_end c).After-put_decimal-2 in omega arith
 
-pub overflow_add-b-3 : goal.overflow_add-b-3
-overflow_add-b-3 c = let x = few (goal.at.overflow_add-b-3 c).After-put_decimal in let y = few_2 (goal.at.overflow_add-b-3 c).After-put_decimal-2 in omega arith
+pub overflow_add-output_end-3 : goal.overflow_add-output_end-3
+overflow_add-output_end-3 c = let x = few (goal.at.overflow_add-output_end-3 c).After-put_decimal in let y = few_2 (goal.at.overflow_add-output_end-3 c).After-put_decimal-2 in omega arith
 
-pub overflow_add-d-2 : goal.overflow_add-d-2
-overflow_add-d-2 c = let x = few (goal.at.overflow_add-d-2 c).After-put_decimal in let y = few_2 (goal.at.overflow_add-d-2 c).After-put_decimal-2 in let z = few_3 (goal.at.overflow_add-d-2 c).After-put_decimal-3 in omega arith
+pub overflow_add-last_end-2 : goal.overflow_add-last_end-2
+overflow_add-last_end-2 c = let x = few (goal.at.overflow_add-last_end-2 c).After-put_decimal in let y = few_2 (goal.at.overflow_add-last_end-2 c).After-put_decimal-2 in let z = few_3 (goal.at.overflow_add-last_end-2 c).After-put_decimal-3 in omega arith
 
 pub overflow_add-result : goal.overflow_add-result
 overflow_add-result c = let x = few (goal.at.overflow_add-result c).After-put_decimal in let y = few_2 (goal.at.overflow_add-result c).After-put_decimal-2 in let z = few_3 (goal.at.overflow_add-result c).After-put_decimal-3 in let h = all_fit (goal.at.overflow_add-result c).After-put_decimal in omega arith

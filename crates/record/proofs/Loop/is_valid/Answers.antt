@@ -18,4 +18,4 @@ returns c =
     c.fine_ok.ensures)
     c.pending_ok.ensures)
     c.is_valid.ensures)
-    (c.is_valid-2.ensures ∙ ap (λ (g : Guard). raw_ok g.primed g.raw) c.guard-g.ensures)
+    (c.is_valid-2.ensures ∙ ap (λ (g : Guard). raw_ok g.primed g.raw) c.guard.ensures)
