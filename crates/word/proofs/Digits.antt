@@ -1,5 +1,5 @@
 -- Laws of the tests of a decimal's form.
-use Prim.Native.Nat.{ℕ, suc, ◌+◌, ◌-◌, ◌*◌, ◌^◌, ◌<◌, ◌≤◌}
+use Prim.Native.Nat.{ℕ, zero, suc, ◌+◌, ◌-◌, ◌*◌, ◌^◌, ◌<◌, ◌≤◌}
 use mathlib.Core.Path.{◌≡◌, refl, sym, ap, ◌∙◌}
 use mathlib.Core.Bool.{true, false, cond, not, ◌&&◌}
 use mathlib.Core.List.{List, [], ◌∷◌}
@@ -9,10 +9,20 @@ use native.Mathlib.Omega.{arith}
 use borrow.Author.Tests.{le-leb, lt-leb, le-ltb, leb-true, not-true}
 use lib.Dec.{eqb, leb, lit<}
 use lib.ListN.{length, take}
+use lib.IntN.{pos, neg_ℤ, ◌-ℤ◌, +ℤ_idl}
 use lib.Pointwise.{pointwise}
-use Rattle.whole.proofs.Truth.{both, and, and_comm, push, by_test}
-use Rattle.word.specs.Decimal.{is_digit, all_digits, most_digits, leading_zero, is_size, has_minus, unsigned, size_from, size_of, is_decimal, number_of, decimal_of, lowest, signed_of}
+use mir.Syntax.{w32, w64}
+use mir.Val.{SFits, to_z}
+use mir.Facts.{to_z_pos}
+use Rattle.whole.proofs.Truth.{both, and, and_comm, never, push, by_test}
+use Rattle.word.specs.Decimal.{is_digit, all_digits, most_digits, long_digits, leading_zero, is_size, has_minus, unsigned, size_from, size_of, is_decimal, number_of, decimal_of, lowest, signed_of}
 use Rattle.std.specs.Prelude.{Option, Some, None}
+
+-- a word with a minus is not empty
+pub minus_there : (w : List ℕ) → has_minus w ≡ true → 0 < length w
+unfolding has_minus
+minus_there [] e = never e
+minus_there (b ∷ w) e = omega arith
 
 -- what a test for a minus at a word's beginning says
 pub starts_minus : (w : List ℕ) → pointwise eqb (take 1 w) (45 ∷ []) ≡ has_minus w
@@ -77,6 +87,9 @@ made_of f none most w e = push (made f none) (is_size most w) (Some (size_of w))
 pub step_bound : (k n d : ℕ) → n < 10 ^ k → d ≤ 9 → n * 10 + d < 10 ^ (k + 1)
 step_bound k n d h l = rw (add-one, pow-suc) (omega arith)
 
+pub small : (k n : ℕ) → n < 10 ^ k → k < long_digits → n < 1000000000
+small k n h l = omega (arith, pow-le-pow_right {n = 10} (lit< tt) {i = k} {j = 9} (omega arith))
+
 size_below : (w : List ℕ) (n k : ℕ) → n < 10 ^ k → all_digits w ≡ true → size_from n w < 10 ^ (k + length w)
 size_below [] n k h e = rw add-zero h
 size_below (b ∷ w) n k h e =
@@ -91,6 +104,21 @@ size_small w e =
     let s = sized most_digits w e in
     let h : size_of w < 10 ^ length w = rw zero-add at (size_below w 0 0 (omega arith) s.all) in
     omega (arith, pow-le-pow_right {n = 10} (lit< tt) {i = length w} {j = 7} s.few)
+
+-- ---- a size with its sign turned
+
+-- what a minus makes of a number fits 32 bits
+pub neg_fits : (n : ℕ) → 0 < n → n ≤ lowest → SFits w32 (neg_ℤ (pos n))
+neg_fits zero h l = absurd (omega arith)
+neg_fits (suc n) h l = record { sfits = omega arith }
+
+pub wide_fits : (n : ℕ) → n ≤ lowest → SFits w64 (neg_ℤ (pos n))
+wide_fits zero l = record { sfits = omega arith }
+wide_fits (suc n) l = record { sfits = omega arith }
+
+-- what `0 - n` is, of a number that a cast made signed
+pub turned : (n : ℕ) → n ≤ lowest → (pos 0 -ℤ to_z w64 n) ≡ neg_ℤ (pos n)
+turned n l = rw (to_z_pos w64 {n = n} (omega arith)) (+ℤ_idl (neg_ℤ (pos n)))
 
 -- ---- what reading a word answers
 

@@ -5,9 +5,11 @@ use mathlib.Core.List.{List, ◌∷◌, ◌++◌, append_assoc}
 use native.Mathlib.Nat.{pow-suc}
 use native.Mathlib.Omega.{arith}
 use lib.IntN.{ℤ, pos, negsuc, nat_abs}
-use lib.ListN.{length, set, replicate}
+use lib.ListN.{length, drop, set, replicate, length-replicate}
+use lib.Seq.{sets, drop_at}
 use mir.Syntax.{w32}
 use mir.Val.{SFits}
+use Rattle.word.specs.declared.decimal.Shown.{Shown}
 use Rattle.word.specs.Decimal.{decimal_room, shown, decimal, padded}
 use Rattle.word.proofs.Decimals.{front, front_some, shown_last, shown_form}
 use Rattle.word.proofs.Signs.{abs_fits}
@@ -40,6 +42,10 @@ pub record Partly (n left from : ℕ) (bytes : List ℕ) : Type 0 where
   pub room : left < 10 ^ from
   pub digits : shown n ≡ front left ++ tail
 
+pub partly_place : {n left from : ℕ} {bytes : List ℕ} → 0 < left → Partly n left from bytes → (0 < from) × (from ≤ decimal_room)
+partly_place {from = zero} h p = absurd (omega (arith, p.room))
+partly_place {from = suc k} h p = omega (arith, p.ends.long)
+
 pub partly_more : (n left from : ℕ) (bytes : List ℕ) → 0 < left → Partly n left from bytes →
     Partly n (left / 10) (from - 1) (set bytes (from - 1) (48 + left % 10))
 partly_more n left zero bytes h p = absurd (omega (arith, p.room))
@@ -49,6 +55,9 @@ partly_more n left (suc k) bytes h p = record {
   room = let q : suc k - 1 ≡ k = omega arith in rw q (omega (arith, pow-suc 10 k, p.room));
   digits = p.digits ∙ ap (λ (w : List ℕ). w ++ p.tail) (front_some left h ∙ shown_last left) ∙ simp append_assoc;
 }
+
+pub partly_all : (n from : ℕ) (bytes : List ℕ) → Partly n 0 from bytes → Ends from bytes (shown n)
+partly_all n from bytes p = rw p.digits p.ends
 
 -- a decimal's digits, and its minus before them
 pub padded_more : (w : List ℕ) (b : ℕ) → length w ≤ 10 →
@@ -66,3 +75,11 @@ decimal_room_lem z f = let h = (abs_fits z f).fits in at z h where
 -- and a number of 32 bits without a sign has at most ten
 pub shown_room : (n : ℕ) → n < 2 ^ 32 → length (shown n) ≤ 10
 shown_room n h = (shown_form n).few 10 (omega arith) (omega arith)
+
+-- what is put of eleven bytes is the text that stands at their end
+pub shown_stored : {l₁ : List ℕ} {n : ℕ} {s : Shown} (l₀ : List ℕ) (at : ℕ) (w : List ℕ) → length w ≤ decimal_room → s ≡ padded w →
+    (n ≡ decimal_room - s.from) × (l₁ ≡ sets l₀ at (drop s.from s.bytes)) → (n ≡ length w) × (l₁ ≡ sets l₀ at w)
+shown_stored {l₁} {n} {s} l₀ at w h e p =
+    let k = decimal_room - length w in
+    let q = rw e at p in
+    (omega (arith, q.0), q.1 ∙ ap (sets l₀ at) (drop_at (replicate k 0) w k (length-replicate k 0)))

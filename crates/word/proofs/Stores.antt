@@ -3,11 +3,12 @@ use Prim.Native.Nat.{ℕ, zero, suc, ◌+◌, ◌-◌, ◌<◌, ◌≤◌, min}
 use mathlib.Core.Path.{◌≡◌, refl, sym, ap, ap₂, ◌∙◌}
 use mathlib.Core.List.{List, [], ◌∷◌, ◌++◌, append-nil, append_assoc}
 use native.Mathlib.Nat.{add-zero, add-suc, suc-add}
+use native.Mathlib.Numerals.{add-one}
 use native.Mathlib.Omega.{arith}
-use lib.ListN.{length, take, drop, set, length-append, length-take, length-set}
+use lib.ListN.{length, take, drop, set, get_or, length-append, length-take, length-set}
 use lib.Seq.{sets, sets-eq, set_out, take_at, drop-length}
 use borrow.Rule.Slice.PartMut.{post_of, put_mid, Post-is}
-use Rattle.whole.proofs.Lists.{part_left}
+use Rattle.whole.proofs.Lists.{next, part_left}
 
 -- one part after the other
 pub sets_append : {A : Type 0} (l : List A) (i : ℕ) (a b : List A) → sets l i (a ++ b) ≡ sets (sets l i a) (i + length a) b
@@ -19,6 +20,12 @@ pub sets_out : (l : List ℕ) (i : ℕ) (vs : List ℕ) → length l ≤ i → s
 sets_out l i [] h = refl
 sets_out l i (v ∷ vs) h =
     ap (λ (s : List ℕ). sets s (suc i) vs) (set_out l i v h) ∙ sets_out l (suc i) vs (omega arith)
+
+-- one more byte
+pub sets_next : (l : List ℕ) (k : ℕ) (bytes : List ℕ) (j : ℕ) → j < length bytes →
+    sets l k (drop j bytes) ≡ sets (set l k (get_or bytes j 0)) (k + 1) (drop (j + 1) bytes)
+sets_next l k bytes j h =
+    ap (sets l k) (next bytes j 0 h) ∙ ap (λ (n : ℕ). sets (set l k (get_or bytes j 0)) n (drop (j + 1) bytes)) (sym (add-one k))
 
 -- of bytes that reach past the end only those before it are stored
 pub sets_front : (l : List ℕ) (at : ℕ) (bytes : List ℕ) (k : ℕ) → k ≤ length bytes → (k < length bytes → length l ≤ at + k) →

@@ -70,6 +70,12 @@ begins_split (x ∷ k) (b ∷ l) e =
     let t = both (eqb b x) (begins k l) e in
     ap (λ (y : ℕ). y ∷ l) (eqb-true b x t.0) ∙ ap (λ (m : List ℕ). x ∷ m) (begins_split k l t.1)
 
+-- a line that begins with a key is at least as long
+pub begun_long : (k l : List ℕ) → begins k l ≡ true → length k ≤ length l
+begun_long [] l e = omega arith
+begun_long (x ∷ k) [] e = never e
+begun_long (x ∷ k) (b ∷ l) e = omega (arith, begun_long k l (both (eqb b x) (begins k l) e).1)
+
 -- what std's tests for a text's beginning say
 eqb_turned : (a b : ℕ) → eqb a b ≡ eqb b a
 eqb_turned a b = by_test (eqb b a) (λ e. eq-eqb a b (sym (eqb-true b a e)) ∙ sym e) (λ e. ne_eqb a b (λ q. absurd (eqb-false b a e (sym q))) ∙ sym e)
