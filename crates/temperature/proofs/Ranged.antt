@@ -1,6 +1,6 @@
 -- Samples within ±1,000,000, and the last of some samples.
 use Prim.Native.Nat.{ℕ, suc, ◌+◌, ◌-◌, ◌<◌}
-use mathlib.Core.Path.{◌≡◌, refl, ap, ◌∙◌}
+use mathlib.Core.Path.{◌≡◌, refl, sym, ap, ◌∙◌}
 use mathlib.Core.Bool.{true, false}
 use mathlib.Core.List.{List, [], ◌∷◌}
 use native.Mathlib.Omega.{arith}
@@ -40,6 +40,19 @@ all_ranged g (pv ∷ pvs) e =
     and (taken_reach g pv c.0) (all_ranged (past g pv) pvs c.1)
 
 -- ---- the last of some samples
+
+pub raw_none : (raw : ℤ) (pvs : List ℤ) → length pvs ≡ 0 → raw_after raw pvs ≡ raw
+unfolding raw_after
+raw_none raw [] e = refl
+raw_none raw (pv ∷ pvs) e = absurd (omega arith)
+
+pub raw_last : (raw : ℤ) (pvs : List ℤ) → 0 < length pvs → raw_after raw pvs ≡ get_or pvs (length pvs - 1) (pos 0)
+unfolding raw_after
+raw_last raw [] h = absurd (omega arith)
+raw_last raw (pv ∷ []) h = refl
+raw_last raw (pv ∷ x ∷ pvs) h =
+    let p : suc (suc (length pvs)) - 1 ≡ suc (suc (length pvs) - 1) = omega arith in
+    raw_last pv (x ∷ pvs) (omega arith) ∙ ap (λ (i : ℕ). get_or (pv ∷ x ∷ pvs) i (pos 0)) (sym p)
 
 pub last_is : (raw : ℤ) (pvs : List ℤ) → unwrap_or (slice_get pvs (length pvs - 1)) raw ≡ raw_after raw pvs
 unfolding raw_after
