@@ -2,7 +2,7 @@
 use Prim.Native.Nat.{ℕ, zero, suc, ◌+◌, ◌*◌, ◌-◌, ◌<◌, ◌≤◌}
 use mathlib.Core.Path.{◌≡◌}
 use native.Mathlib.Omega.{arith}
-use native.Mathlib.Nat.{div-zero, div-add-mod', mod-lt, mul-le-mul_right, mul-le-mul_left}
+use native.Mathlib.Nat.{div-zero, div-add-mod', mod-lt, mul-le-mul_right, mul-le-mul_left, mul-sub, mul_comm}
 use borrow.Author.Tests.{ltb-true, ltb-false}
 use lib.Dec.{ltb}
 use lib.IntN.{ℤ, pos, negsuc, nat_abs}
@@ -31,6 +31,19 @@ ceiling_most d (suc r) =
     by_test (ltb d (ceiling d (suc r)))
     (λ t. absurd (omega (arith, short d (suc r) d (omega arith) (ltb-true d (ceiling d (suc r)) t), mul-le-mul_left {m = 1} {n = suc r} d (omega arith))))
     (λ t. ltb-false d (ceiling d (suc r)) t)
+
+-- n samples
+pub ceiling_less : (d r n : ℕ) → 1 ≤ r → ceiling (d - n * r) r ≡ ceiling d r - n
+ceiling_less d r n h =
+    let q = ceiling d r in
+    let m = ceiling (d - n * r) r in
+    let all = enough d r q h (omega arith) in
+    let left = enough (d - n * r) r m h (omega arith) in
+    by_test (ltb (q - n) m)
+    (λ t. let s = short (d - n * r) r (q - n) h (ltb-true (q - n) m t) in absurd (omega (arith, s, all, mul-sub r q n, mul_comm r (q - n), mul_comm r q, mul_comm r n)))
+    (λ t. by_test (ltb m (q - n))
+    (λ u. let k = ltb-true m (q - n) u in let s = short d r (m + n) h (omega (arith, k)) in absurd (omega (arith, s, left)))
+    (λ u. omega (arith, ltb-false (q - n) m t, ltb-false m (q - n) u)))
 
 -- it is what std's method of that name gives
 pub ceiling_is : (d r : ℕ) → 0 < r → div_ceil d r ≡ ceiling d r
