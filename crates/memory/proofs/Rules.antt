@@ -1,17 +1,18 @@
 -- The memory's state rules: one place after the other, and kept by what is remembered.
 use Prim.Native.Nat.{ℕ, zero, suc, ◌+◌, ◌-◌, ◌<◌, ◌≤◌}
 use mathlib.Core.Path.{◌≡◌, refl, ap, ap₂, sym, ◌∙◌}
-use mathlib.Core.Bool.{Bool, true, ◌&&◌}
+use mathlib.Core.Bool.{Bool, true, false, ◌&&◌}
 use mathlib.Core.List.{List, [], ◌∷◌}
 use native.Mathlib.Omega.{arith}
 use borrow.Author.Tests.{eqb-true, eq-eqb, lt-ltb, le-ltb, ltb-true, ltb-false}
 use lib.Dec.{eqb, ltb}
 use lib.IntN.{ℤ}
-use lib.ListN.{length, take, replicate}
+use lib.ListN.{length, take, drop, get_or, replicate, drop_of_length-le}
 use lib.Seq.{length-take-le, take_all}
 use Rattle.std.specs.List.{list_all, enumerate_from}
 use Rattle.whole.specs.Numbers.{inside}
 use Rattle.whole.proofs.Truth.{and, both, by_test}
+use Rattle.whole.proofs.Lists.{next}
 use Rattle.command.specs.declared.Command.{Command}
 use Rattle.memory.specs.declared.Entry.{Entry}
 use Rattle.memory.specs.declared.Memory.{Memory}
@@ -25,6 +26,25 @@ used n i =
     by_test (ltb i n)
     (λ e. let h : i < n = ltb-true i n e in lt-ltb 0 (n - i) (omega arith) ∙ sym e)
     (λ e. let h : n ≤ i = ltb-false i n e in le-ltb 0 (n - i) (omega arith) ∙ sym e)
+
+module _ (n : ℕ) (lo hi : ℤ) (es : List Entry) (i : ℕ) where
+  -- the rules from place i on
+  abbrev pub ok_from : ℕ → Bool
+  ok_from j = entries_ok (n - j) lo hi (drop j es)
+
+  ok_next : i < length es → ok_from i ≡ (entry_ok (ltb i n) lo hi (get_or es i no_entry) && ok_from (i + 1))
+  ok_next h =
+      rw (next es i no_entry h)
+      (ap₂ (λ (b : Bool) (k : ℕ). entry_ok b lo hi (get_or es i no_entry) && entries_ok k lo hi (drop (i + 1) es)) (used n i) (omega arith))
+
+  pub ok_on : i < length es → entry_ok (ltb i n) lo hi (get_or es i no_entry) ≡ true → ok_from i ≡ ok_from (i + 1)
+  ok_on h e = ok_next h ∙ ap (λ (b : Bool). b && ok_from (i + 1)) e
+
+  pub ok_not : i < length es → entry_ok (ltb i n) lo hi (get_or es i no_entry) ≡ false → ok_from i ≡ false
+  ok_not h e = ok_next h ∙ ap (λ (b : Bool). b && ok_from (i + 1)) e
+
+  pub ok_end : length es ≤ i → ok_from i ≡ true
+  ok_end h = rw (drop_of_length-le es h)
 
 -- the places from i on, each tested with its own number
 pub all_ok : (n : ℕ) (lo hi : ℤ) (es : List Entry) (i : ℕ) →

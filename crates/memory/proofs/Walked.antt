@@ -28,6 +28,10 @@ module _ (L : Law) where
   Runs (suc n) (suc m) (k ∷ ks) =
       (k.sent.number ≡ suc m) × (k.answer ≡ record { code = 0; output = k.answer.output; number = suc m }) × Runs n m ks
 
+  pub runs_start : (n : ℕ) → Runs n 0 []
+  runs_start zero = refl
+  runs_start (suc n) = refl
+
   pub runs_take : (n m : ℕ) (ks : List (Kept L)) → Runs (suc n) m ks → Runs n m (take n ks)
   runs_take zero m ks r = refl
   runs_take (suc n) zero [] r = refl
