@@ -14,7 +14,7 @@ use Rattle.pid.specs.Numbers.{Fixed}
 use Rattle.pid.specs.Numbers.{Moving}
 use Rattle.settings.specs.Table.{reach}
 use Rattle.temperature.specs.Temperature.{ranged}
-use Rattle.temperature.proofs.Ranged.{ranged_on}
+use Rattle.temperature.proofs.Ranged.{ranged_first, ranged_on}
 use Rattle.window.specs.Means.{front_filled}
 use Rattle.window.proofs.Taken.{sets_front}
 use Rattle.pid.specs.Sample.{moved_of}
@@ -80,6 +80,14 @@ module _ {f : Fixed} {pvs out₀ : List ℤ} {m₀ : Moving} {out : List ℤ} {m
     pub end_outputs : length pvs ≤ length out₀ → out ≡ front_filled (moved_outputs f m₀ pvs) out₀
     unfolding each
     end_outputs h = (rw (end, drop-length pvs) at t.outputs) ∙ sets_front out₀ (moved_outputs f m₀ pvs) (rw (each_length (moved_of f) _ m₀ pvs) h)
+
+-- what moves stays within its bounds
+pub all_ok : (f : Fixed) (m : Moving) (pvs : List ℤ) → FixedOk f → MovingOk m → ranged pvs ≡ true → MovingOk (moved_after f m pvs)
+unfolding after
+all_ok f m [] g o e = o
+all_ok f m (pv ∷ pvs) g o e =
+    let h = ranged_first pv pvs e in
+    all_ok f (moved_of f m pv) pvs g (acted_ok _ _ _ g o (sensed_ok _ _ _ g o (in_range 999999 pv h.0))) h.1
 
 -- a front that is filled whole, with what stands behind it
 pub front_joined : (us out : List ℤ) (n : ℕ) → n ≤ length out → length us ≡ n → front_filled us (take n out) ++ drop n out ≡ front_filled us out
