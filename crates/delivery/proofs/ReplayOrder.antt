@@ -208,6 +208,34 @@ module _ (s : Numbered) (first : ℕ) (pvs out : List ℤ) where
   unfolding replayed_of written_of
   done e = (rw e, rw e)
 
+  pub broken : memory_ok s ≡ false → Replays (refused_of s 10 0) out
+  broken m = refuses 10 (by_numbers s first pvs (length out) ∙ rw m) (λ z. omega (arith, z))
+
+  -- a refusal that comes after 10
+  abbrev stopped : ℕ → Replayed
+  stopped code = cond (valid s.state) (refused_of s code 0) (refused_of s 10 0)
+
+  module _ (m : memory_ok s ≡ true) where
+    stops_at : (code : ℕ) → (code ≡ 0 → ⊥) → has_place code ≡ false → numbers_refusal s first (length pvs) (length out) ≡ code → Replays (stopped code) out
+    stops_at code z q e =
+        by_test (valid s.state)
+        (λ v. rw v (rw q at (refuses code (by_numbers s first pvs (length out) ∙ rw (m, v, e, ne_eqb code 0 z)) z)))
+        (λ v. rw v (refuses 10 (by_numbers s first pvs (length out) ∙ rw (m, v)) (λ x. omega (arith, x))))
+
+    pub stops_1 : first ≤ s.memory.number → Replays (stopped 1) out
+    stops_1 h = stops_at 1 (λ z. omega (arith, z)) refl (numbers_1 s first (length pvs) (length out) h)
+
+    module _ (above : s.memory.number < first) where
+      pub stops_3 : s.memory.number + 1 < first → Replays (stopped 3) out
+      stops_3 h = stops_at 3 (λ z. omega (arith, z)) refl (numbers_3 s first (length pvs) (length out) above h)
+
+      module _ (next : first ≤ s.memory.number + 1) where
+        pub stops_12 : length out < length pvs → Replays (stopped 12) out
+        stops_12 h = stops_at 12 (λ z. omega (arith, z)) refl (numbers_12 s first (length pvs) (length out) above next h)
+
+        pub stops_13 : length pvs ≤ length out → numbers_left s < length pvs → Replays (stopped 13) out
+        stops_13 room h = stops_at 13 (λ z. omega (arith, z)) refl (numbers_13 s first (length pvs) (length out) above next room h)
+
   pub stops : (admission s first (length pvs) (length out) ≡ 0 → ⊥) → Replays (refused_of s (admission s first (length pvs) (length out)) 0) out
   stops z =
       let r = refused_at s first pvs (length out) z in

@@ -42,7 +42,7 @@ module _ (s : Numbered) (n : ℕ) (c : Command) where
       (λ z. rw (refuses s.state c v (eqb-false _ 0 z), v, z, ne_eqb (refusal_of s.state c) 10 (never_ten s.state c))))
       (λ v. rw (breaks s.state c v, v))
 
-  tried : (o : Obeyed) → o ≡ law_of s.state c → made_by s n c o ≡ tried_of s n c
+  pub tried : (o : Obeyed) → o ≡ law_of s.state c → made_by s n c o ≡ tried_of s n c
   tried o e = ap (made_by s n c) e ∙ made
 
   pub tried_kept : (o : Obeyed) → o ≡ law_of s.state c → o.code ≡ 0 → answer_of 0 (kept_of s o.state n c) ≡ tried_of s n c
