@@ -119,17 +119,17 @@ impl Row {
         (self.least..=self.most).contains(&x)
     }
 
-    // Whether each of these values lies within the range of its row, where the first row is row `from` of the constant table.
+    // Whether each of these values lies within the range of its row, where the first row is row `from` of the constant table. Every
+    // value is looked at, so that no test breaks the loop off.
     fn hold(from: usize, values: &[i32]) -> bool
         requires { from + length values.now ≤ heads + keys }
         ensures { result ≡ held_from from values.now }
     {
+        let mut ok = true;
         for (i, x) in values.iter().enumerate() {
-            if !Row::kind(from + i).holds(*x) {
-                return false;
-            }
+            ok &= Row::kind(from + i).holds(*x);
         }
-        true
+        ok
     }
 }
 
