@@ -80,13 +80,13 @@ impl Window {
         ok
     }
 
-    // "The window takes every kept sample": the new temperature stands first, and the oldest leaves.
+    // "The window takes every kept sample": the new temperature stands first, and the oldest leaves. `copy_within` would call `memmove`,
+    // which the archive for C would then need from outside.
     pub fn taken(self, pv: i32) -> Window
         ensures { result ≡ taken self pv }
     {
-        let mut places = self.places;
-        places.copy_within(..Settings::WINDOW - 1, 1);
-        places[0] = pv;
+        let mut places = [pv; Settings::WINDOW];
+        places[1..].copy_from_slice(&self.places[..Settings::WINDOW - 1]);
         let seen = self.seen.min(Settings::WINDOW - 1) + 1;
         Window { places, seen }
     }

@@ -88,6 +88,17 @@ fn put_rest(start: i32, most: usize, samples: &[i32], out: &mut [i32])
     }
 }
 
+// The mean over the last one is the sample itself. Place by place: std's `copy_from_slice` calls `memmove`, which the archive for
+// C would then need from outside.
+fn put_samples(samples: &[i32], out: &mut [i32])
+    requires { length samples.now ≤ length out.old }
+    ensures { out.new ≡ sets out.old 0 samples.now }
+{
+    for i in 0..samples.len() {
+        out[i] = samples[i];
+    }
+}
+
 impl Window {
     // The sum is kept in a local, and no window goes through the loop.
     fn put_means(self, m: usize, samples: &[i32], out: &mut [i32])
@@ -95,8 +106,7 @@ impl Window {
         ensures { out.new ≡ front_filled (means_of m self samples.now) out.old }
     {
         if m == 1 {
-            // The mean over the last one is the sample itself.
-            out[..samples.len()].copy_from_slice(samples);
+            put_samples(samples, out);
             return;
         }
         let most = m.min(Settings::WINDOW);

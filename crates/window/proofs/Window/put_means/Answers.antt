@@ -1,6 +1,6 @@
 use Prim.Native.Nat.{ℕ, ◌≤◌, min}
 use mathlib.Core.Path.{◌≡◌, refl, sym, ap, ap₂, ◌∙◌}
-use mathlib.Core.List.{List, [], ◌++◌}
+use mathlib.Core.List.{List, []}
 use native.Mathlib.Omega.{arith}
 use lib.IntN.{ℤ, pos, negsuc}
 use lib.ListN.{length, take, drop}
@@ -58,7 +58,8 @@ returns-then-m-eq1 c =
     let w = c.args.self in
     let pvs = c.args.samples.now in
     let out = c.args.out.now in
-    ap (λ (xs : List ℤ). xs ++ drop (length pvs) out) c.copy_from_slice.ensures.after
+    c.put_samples.ensures
+    ∙ sets_front out pvs c.requires.1
     ∙ ap (λ (xs : List ℤ). front_filled xs out) (sym (ap (λ (m : ℕ). means_of m w pvs) c.if-m-eq1.true ∙ means_one w pvs))
 
 pub put_first-requires : goal.put_first-requires
