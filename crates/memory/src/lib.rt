@@ -124,12 +124,15 @@ impl Memory {
         self.entries[back].found(c)
     }
 
-    // The memory once a command is kept under a number: its entry stands first, and the oldest leaves.
+    // The memory once a command is kept under a number: its entry stands first, and the oldest leaves. Place by place, since a method
+    // that is lent the entries has them copied, and a delivery takes a fifth more instructions.
     pub fn remember(self, number: u32, c: Command, output: i32) -> Memory
         ensures { result ≡ remembered self number c output }
     {
         let mut entries = [Entry::of(c, output); Memory::WINDOW];
-        entries[1..].copy_from_slice(&self.entries[..Memory::WINDOW - 1]);
+        for i in 1..Memory::WINDOW {
+            entries[i] = self.entries[i - 1];
+        }
         Memory { number, entries }
     }
 
