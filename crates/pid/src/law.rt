@@ -118,14 +118,14 @@ pub fn obey(l: Loop, c: Command) -> After<Loop>
             state: l,
         };
     }
-    match l.check(c) {
-        Ok(()) => After {
-            outcome: Ok(()),
-            state: step(l, c),
-        },
-        Err(refusal) => After {
+    if let Err(refusal) = l.check(c) {
+        return After {
             outcome: Err(refusal),
             state: l,
-        },
+        };
+    }
+    After {
+        outcome: Ok(()),
+        state: step(l, c),
     }
 }

@@ -47,7 +47,10 @@ fn refused(l: Loop, bad: Bad) -> Played
 fn stopped(l: Loop, refusal: Refusal) -> Played
     ensures { played_told result ≡ refused_of l (code_for refusal) 0 }
 {
-    refused(l, Bad { refusal, place: 0 })
+    Played {
+        outcome: Err(Bad { refusal, place: 0 }),
+        state: l,
+    }
 }
 
 // The means stand in the list: every sample is good, and has its place.

@@ -10,10 +10,10 @@ unfolding law_of
 returns-then-not-is_valid c =
     rw (so c.is_valid.ensures c.if-not-is_valid.true)
 
-pub returns-in-Ok : goal.returns-in-Ok
+pub returns : goal.returns
 unfolding law_of
-returns-in-Ok c =
-    rw (so c.is_valid.ensures c.if-not-is_valid.false, eq-eqb _ _ (sym c.in-Ok.ensures), c.step.ensures)
+returns c =
+    rw (so c.is_valid.ensures c.if-not-is_valid.false, eq-eqb _ _ (sym c.in_default.ensures), c.step.ensures)
 
 pub returns-in-Err : goal.returns-in-Err
 unfolding law_of
