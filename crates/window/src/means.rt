@@ -88,8 +88,8 @@ fn put_rest(start: i32, most: usize, samples: &[i32], out: &mut [i32])
     }
 }
 
-// The mean over the last one is the sample itself. Place by place: std's `copy_from_slice` calls `memmove`, which the archive for
-// C would then need from outside.
+// The mean over the last one is the sample itself. Place by place: a copy from one lent list to another by std's `copy_from_slice`
+// calls `memmove`, which the archive for C would then need from outside.
 fn put_samples(samples: &[i32], out: &mut [i32])
     requires { length samples.now ≤ length out.old }
     ensures { out.new ≡ sets out.old 0 samples.now }
