@@ -43,7 +43,7 @@ fn refused(l: Loop, bad: Bad) -> Played
     }
 }
 
-// A refusal that is of no sample: its place is 0.
+// A refusal that is of no sample: its place is 0. Built here, since what `refused` hands on would be cleared and copied once more.
 fn stopped(l: Loop, refusal: Refusal) -> Played
     ensures { played_told result ≡ refused_of l (code_for refusal) 0 }
 {
