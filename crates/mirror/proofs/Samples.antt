@@ -26,29 +26,10 @@ flip_sign of_action s = neg_ℤ s
 flip_sign of_temperatures s = s
 
 abbrev pub flip_fixed : Mirror → Fixed → Fixed
-flip_fixed k f = record {
-  sign = flip_sign k f.sign;
-  lo = neg_ℤ f.hi;
-  hi = neg_ℤ f.lo;
-  target = flip_temperature k f.target;
-  rate = f.rate;
-  automatic = f.automatic;
-  kp = f.kp;
-  ki = f.ki;
-  kd = f.kd;
-  alpha = f.alpha;
-  kt = f.kt;
-}
+flip_fixed k f = record f { sign = flip_sign k f.sign; lo = neg_ℤ f.hi; hi = neg_ℤ f.lo; target = flip_temperature k f.target }
 
 abbrev pub flip_moving : Mirror → Moving → Moving
-flip_moving k m = record {
-  w = flip_temperature k m.w;
-  u = neg_ℤ m.u;
-  integral = neg_ℤ m.integral;
-  y = flip_temperature k m.y;
-  primed = m.primed;
-  pending = m.pending;
-}
+flip_moving k m = record m { w = flip_temperature k m.w; u = neg_ℤ m.u; integral = neg_ℤ m.integral; y = flip_temperature k m.y }
 
 -- the error, P and D change sign in both mirrors
 abbrev flip_sensed : Mirror → Sensed → Sensed
